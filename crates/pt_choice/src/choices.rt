@@ -1,0 +1,61 @@
+ghost use Rattle.std.specs.Prelude.{◌≡◌, ◌<◌, [], ◌∷◌, ◌++◌, length, IfOk, OnOk, OnErr};
+
+use crate::{Choice, NoMemory};
+use std::alloc::Global;
+use std::marker::Model;
+
+/// A list of choices, which is what an example is made of.
+#[derive(Debug, Drop)]
+pub struct Choices {
+    items: Vec<Choice>,
+}
+
+impl Model for Choices {
+    ghost use Rattle.std.specs.Prelude.{List};
+    ghost use Rattle.pt_choice.specs.declared.choice.Choice.{Choice};
+
+    ghost Value = { List Choice };
+
+    ghost view = { λ choices. choices.items.items };
+}
+
+impl Choices {
+    /// No choices. Takes no memory.
+    pub fn empty(alloc: Global) -> Choices
+        ensures { result ≡ [] }
+    {
+        Choices {
+            items: Vec::new(alloc),
+        }
+    }
+
+    pub fn len(&self) -> usize
+        ensures { result ≡ length self.now }
+    {
+        self.items.len()
+    }
+
+    pub fn as_slice(&self) -> &[Choice]
+        ensures { result.now ≡ self.now }
+    {
+        self.items.as_slice()
+    }
+
+    pub fn copy(&self) -> Result<Choices, NoMemory>
+        ensures { IfOk result (λ choices. choices ≡ self.now) }
+    {
+        let mut items = Vec::new(*self.items.allocator());
+        for choice in &self.items {
+            items.push(choice.copy()?)?;
+        }
+        Ok(Choices { items })
+    }
+
+    pub fn push(&mut self, item: Choice) -> Result<(), NoMemory>
+        ensures ok { OnOk result (self.new ≡ self.old ++ item ∷ []) }
+        ensures err { OnErr result (self.new ≡ self.old) }
+    {
+        self.items.push(item)?;
+        Ok(())
+    }
+}

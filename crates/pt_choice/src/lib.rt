@@ -1,0 +1,17 @@
+//! Typed choices, the kinds that ask for them, and the lists that they stand in.
+//!
+//! A generator asks for choices of stated kinds, and the list of its choices alone determines the
+//! example. So everything above this crate speaks of an example as a list of choices.
+#![tactic(auto)]
+
+mod choice;
+mod choices;
+mod kind;
+mod memory;
+mod octets;
+
+pub use choice::Choice;
+pub use choices::Choices;
+pub use kind::{Kind, Shape, admits, simplest};
+pub use memory::NoMemory;
+pub use octets::Octets;

@@ -1,0 +1,64 @@
+ghost use Rattle.std.specs.Prelude.{◌≡◌, [], ◌∷◌, ◌++◌, length, IfOk, OnOk, OnErr};
+
+use crate::NoMemory;
+use std::alloc::Global;
+use std::marker::Model;
+
+/// A list of bytes, as a text to print or a file's content.
+#[derive(Debug, Drop)]
+pub struct Octets {
+    items: Vec<u8>,
+}
+
+impl Model for Octets {
+    ghost use Rattle.std.specs.Prelude.{List, ℕ};
+
+    ghost Value = { List ℕ };
+
+    ghost view = { λ octets. octets.items.items };
+}
+
+impl Octets {
+    /// No bytes. Takes no memory.
+    pub fn empty(alloc: Global) -> Octets
+        ensures { result ≡ [] }
+    {
+        Octets {
+            items: Vec::new(alloc),
+        }
+    }
+
+    /// A copy of these bytes.
+    pub fn of(alloc: Global, from: &[u8]) -> Result<Octets, NoMemory>
+        ensures { IfOk result (λ octets. octets ≡ from.now) }
+    {
+        let items = Vec::from_slice(alloc, from)?;
+        Ok(Octets { items })
+    }
+
+    pub fn len(&self) -> usize
+        ensures { result ≡ length self.now }
+    {
+        self.items.len()
+    }
+
+    pub fn as_slice(&self) -> &[u8]
+        ensures { result.now ≡ self.now }
+    {
+        self.items.as_slice()
+    }
+
+    pub fn copy(&self) -> Result<Octets, NoMemory>
+        ensures { IfOk result (λ octets. octets ≡ self.now) }
+    {
+        Octets::of(*self.items.allocator(), self.items.as_slice())
+    }
+
+    pub fn push(&mut self, item: u8) -> Result<(), NoMemory>
+        ensures ok { OnOk result (self.new ≡ self.old ++ item ∷ []) }
+        ensures err { OnErr result (self.new ≡ self.old) }
+    {
+        self.items.push(item)?;
+        Ok(())
+    }
+}
