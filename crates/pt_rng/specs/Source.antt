@@ -1,0 +1,8 @@
+-- What a supply's source stands for.
+use Rattle.pt_rng.specs.Supplied.{Supplied, Simplest as NoWords, Streamed}
+use Rattle.pt_rng.specs.declared.supply.Source.{Source}
+use Rattle.pt_rng.specs.declared.supply.Source.TheVariants.{Simplest, Words}
+
+abbrev pub supplied_by : Source → Supplied
+supplied_by Simplest = NoWords
+supplied_by (Words words) = Streamed words

@@ -1,0 +1,94 @@
+ghost use Rattle.std.specs.Prelude.{◌≡◌, true, IfOk, IsOk};
+ghost use Rattle.pt_choice.specs.Kind.{admits, AsksSmall};
+ghost use Rattle.pt_rng.specs.Supplied.{Simplest, Streamed, key_bytes, start_of, supply_of_run, choice_of, made};
+
+use pt_choice::{Choice, Kind, NoMemory, Shape, simplest};
+use rand_chacha::ChaCha8Rng;
+use rand_core::SeedableRng;
+use rand_core::utils::NextWord;
+use std::marker::Model;
+
+/// Where the answers of a fresh run come from.
+#[derive(Drop)]
+pub struct Supply {
+    source: Source,
+}
+
+#[derive(Drop)]
+enum Source {
+    Simplest,
+    Words(ChaCha8Rng),
+}
+
+impl Model for Supply {
+    ghost use Rattle.pt_rng.specs.Supplied.{Supplied};
+
+    ghost Value = { Supplied };
+
+    ghost use Rattle.pt_rng.specs.Source.{supplied_by};
+
+    ghost view = { λ supply. supplied_by supply.source };
+}
+
+impl Supply {
+    /// The supply that answers every question with the simplest choice.
+    pub fn simplest() -> Supply
+        ensures { result ≡ Simplest }
+    {
+        Supply {
+            source: Source::Simplest,
+        }
+    }
+
+    /// The words of ChaCha with 8 rounds, of the stream with this number, from its first word on. The key is the
+    /// seed as 8 little-endian bytes and then 24 zero bytes.
+    pub fn stream(seed: u64, run: u64) -> Supply
+        ensures { result ≡ Streamed (start_of seed run) }
+    {
+        let mut words = ChaCha8Rng::from_seed(key(seed));
+        words.set_stream(run);
+        Supply {
+            source: Source::Words(words),
+        }
+    }
+
+    /// The supply of a numbered run: the simplest for run 0, and otherwise the stream of that number.
+    pub fn of_run(seed: u64, run: u64) -> Supply
+        ensures { result ≡ supply_of_run seed run }
+    {
+        if run == 0 {
+            Supply::simplest()
+        } else {
+            Supply::stream(seed, run)
+        }
+    }
+
+    /// The next choice, which the kind admits. A boolean takes no memory. After a refusal nothing is said of the
+    /// place in the stream.
+    pub fn next_choice(&mut self, kind: &Kind) -> Result<Choice, NoMemory>
+        ensures made { IfOk result (λ choice. made self.old kind.now ≡ (choice, self.new)) }
+        ensures admitted { IfOk result (λ choice. admits kind.now choice ≡ true) }
+        ensures small { AsksSmall kind.now → IsOk result }
+    {
+        match &mut self.source {
+            Source::Simplest => simplest(kind),
+            Source::Words(words) => Ok(choice_from(words, kind)),
+        }
+    }
+}
+
+fn key(seed: u64) -> [u8; 32]
+    ensures { result ≡ key_bytes seed }
+{
+    let mut key = [0; 32];
+    key[..8].copy_from_slice(&seed.to_le_bytes());
+    key
+}
+
+fn choice_from(words: &mut ChaCha8Rng, kind: &Kind) -> Choice
+    ensures { choice_of words.old kind.now ≡ (result, words.new) }
+{
+    match kind.shape() {
+        Shape::Bool { chance } => Choice::Bool(words.next_word() % 16 < u32::from(chance)),
+    }
+}
