@@ -19,6 +19,14 @@ impl Model for Choices {
     ghost view = { λ choices. choices.items.items };
 }
 
+impl From<Vec<Choice>> for Choices {
+    ghost from_gives = { λ items choices. choices ≡ items.items };
+
+    fn from(items: Vec<Choice>) -> Choices {
+        Choices { items }
+    }
+}
+
 impl Choices {
     /// No choices. Takes no memory.
     pub fn empty(alloc: Global) -> Choices

@@ -1,0 +1,29 @@
+ghost use Rattle.std.specs.Prelude.{◌≡◌, ◌≤◌, ℕ, take, OnOk, OnErr};
+ghost use Rattle.pt_io.specs.Faults.{Rose};
+ghost use Rattle.pt_io.specs.Sink.{Written, Wrote, Appends};
+
+use crate::IoFailed;
+
+/// An output that is written in pieces.
+pub trait Sink {
+    /// The faults, and the bytes that it was given, where it tells them.
+    ghost shows: { Self → Written };
+
+    /// Takes a first part of these bytes, and answers how many: at least one, where there is one.
+    fn write(&mut self, from: &[u8]) -> Result<usize, IoFailed>
+        ensures { Wrote (shows self.old) from.now result (shows self.new) };
+}
+
+/// Writes all of these bytes. After a failure a first part of them was written. Takes no memory.
+pub fn write_all<K: Sink>(sink: &mut K, from: &[u8]) -> Result<(), IoFailed>
+    ensures all { OnOk result (Appends (K.shows sink.old).bytes from.now (K.shows sink.new).bytes) }
+    ensures part { OnErr result ((n : ℕ) × Appends (K.shows sink.old).bytes (take n from.now) (K.shows sink.new).bytes) }
+    ensures cause { OnErr result (Rose (K.shows sink.old).faults (K.shows sink.new).faults) }
+    ensures later { (K.shows sink.old).faults ≤ (K.shows sink.new).faults }
+{
+    let mut done = 0;
+    while done < from.len() {
+        done += sink.write(&from[done..])?;
+    }
+    Ok(())
+}
