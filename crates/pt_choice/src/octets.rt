@@ -18,6 +18,14 @@ impl Model for Octets {
     ghost view = { λ octets. octets.items.items };
 }
 
+impl From<Vec<u8>> for Octets {
+    ghost from_gives = { λ items octets. octets ≡ items.items };
+
+    fn from(items: Vec<u8>) -> Octets {
+        Octets { items }
+    }
+}
+
 impl Octets {
     /// No bytes. Takes no memory.
     pub fn empty(alloc: Global) -> Octets

@@ -12,12 +12,12 @@ pub trait Files {
 
     /// Chooses the file of this name, to be read from its start. After a failure nothing is chosen.
     fn choose(&mut self, name: &str) -> Result<(), IoFailed>
-        ensures { Chose (shows self.old) name.now (is_ok result) (shows self.new) };
+        ensures chose { Chose (shows self.old) name.now (is_ok result) (shows self.new) };
 
     /// Moves bytes of the chosen file into the buffer, and answers how many. It is 0 only at the end of the file,
     /// or where the buffer is empty.
     fn read(&mut self, into: &mut [u8]) -> Result<usize, IoFailed>
-        ensures { Moved (shows self.old) into.old result into.new (shows self.new) };
+        ensures moved { Moved (shows self.old) into.old result into.new (shows self.new) };
 
     /// An object that tells its files tells what is left.
     ghost tells_left: { (files : Self) → IsSome (shows files).named → IsSome (shows files).left };

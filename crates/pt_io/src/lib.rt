@@ -5,9 +5,13 @@
 #![tactic(auto)]
 
 mod files;
-mod named_files;
+mod memory_files;
+mod memory_sink;
+mod reading;
 mod sink;
 
 pub use files::{Files, IoFailed};
-pub use named_files::{Calls, NamedFiles};
+pub use memory_files::{Calls, MemoryFiles, NamedFiles};
+pub use memory_sink::MemorySink;
+pub use reading::{MAX_BYTES, ReadStop, read_whole};
 pub use sink::{Sink, write_all};

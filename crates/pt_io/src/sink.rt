@@ -11,7 +11,7 @@ pub trait Sink {
 
     /// Takes a first part of these bytes, and answers how many: at least one, where there is one.
     fn write(&mut self, from: &[u8]) -> Result<usize, IoFailed>
-        ensures { Wrote (shows self.old) from.now result (shows self.new) };
+        ensures wrote { Wrote (shows self.old) from.now result (shows self.new) };
 }
 
 /// Writes all of these bytes. After a failure a first part of them was written. Takes no memory.
@@ -23,7 +23,10 @@ pub fn write_all<K: Sink>(sink: &mut K, from: &[u8]) -> Result<(), IoFailed>
 {
     let mut done = 0;
     while done < from.len() {
-        done += sink.write(&from[done..])?;
+        let Ok(n) = sink.write(&from[done..]) else {
+            return Err(IoFailed);
+        };
+        done += n;
     }
     Ok(())
 }
