@@ -1,4 +1,4 @@
-ghost use Rattle.std.specs.Prelude.{◌≡◌, ◌&&◌, nat_le, nat_lt, IfOk, IsOk, SomeIff};
+ghost use Rattle.std.specs.Prelude.{◌≡◌, ◌&&◌, true, nat_le, nat_lt, IfOk, IsOk, SomeIff};
 ghost use Rattle.std.specs.List.{list_all};
 ghost use Rattle.pt_choice.specs.declared.kind.Shape.TheVariants.{Bool, Int, Bytes, Text};
 ghost use Rattle.pt_choice.specs.Kind.{IsShape, admits, simplest, AsksSmall};
@@ -133,6 +133,7 @@ fn are_below(places: &[u8], size: u16) -> bool
 /// The simplest choice of a kind, toward which every reduction goes. A boolean and an integer take no memory.
 pub fn simplest(alloc: Global, kind: &Kind) -> Result<Choice, NoMemory>
     ensures value { IfOk result (λ choice. choice ≡ simplest kind.now) }
+    ensures admitted { IfOk result (λ choice. admits kind.now choice ≡ true) }
     ensures small { AsksSmall kind.now → IsOk result }
 {
     match kind.shape() {
