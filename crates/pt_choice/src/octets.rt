@@ -1,4 +1,4 @@
-ghost use Rattle.std.specs.Prelude.{◌≡◌, [], ◌∷◌, ◌++◌, length, IfOk, OnOk, OnErr};
+ghost use Rattle.std.specs.Prelude.{◌≡◌, [], ◌∷◌, ◌++◌, length, replicate, IfOk, OnOk, OnErr};
 
 use crate::NoMemory;
 use std::alloc::Global;
@@ -41,6 +41,14 @@ impl Octets {
         ensures { IfOk result (λ octets. octets ≡ from.now) }
     {
         let items = Vec::from_slice(alloc, from)?;
+        Ok(Octets { items })
+    }
+
+    /// This many zero bytes.
+    pub(crate) fn zeros(alloc: Global, count: u8) -> Result<Octets, NoMemory>
+        ensures { IfOk result (λ octets. octets ≡ replicate count 0) }
+    {
+        let items = vec![in alloc; 0; usize::from(count)]?;
         Ok(Octets { items })
     }
 

@@ -1,12 +1,11 @@
 -- Where the answers of a fresh run come from, and which choice is made for a question.
-use Rattle.std.specs.Prelude.{ℕ, zero, suc, ◌%◌, ◌++◌, List, nat_lt, replicate}
+use Rattle.std.specs.Prelude.{ℕ, zero, suc, ◌++◌, List, replicate}
 use Rattle.std.specs.Int.{w64, to_le_bytes}
-use Rattle.rand_chacha.specs.ChaCha.{ChaCha, key_of, next_word}
+use Rattle.rand_chacha.specs.ChaCha.{ChaCha, key_of}
 use Rattle.pt_choice.specs.Kind.{simplest}
 use Rattle.pt_choice.specs.declared.kind.Shape.{Shape}
-use Rattle.pt_choice.specs.declared.kind.Shape.TheVariants as shape
 use Rattle.pt_choice.specs.declared.choice.Choice.{Choice}
-use Rattle.pt_choice.specs.declared.choice.Choice.TheVariants as choice
+use Rattle.pt_rng.specs.Words.{words_after, choice_of, words_read}
 
 -- always the simplest choice, or choices made of the words that a generator gives
 pub data Supplied : Type 0 where
@@ -26,19 +25,7 @@ abbrev pub supply_of_run : ℕ → ℕ → Supplied
 supply_of_run seed zero = Simplest
 supply_of_run seed (suc run) = Streamed (start_of seed (suc run))
 
--- the next word of ChaCha with 8 rounds, and the words after it
-abbrev pub word_of : ChaCha → ℕ × ChaCha
-word_of words = next_word 4 words
-
--- the choice that is made of the next words, and the words after it
-abbrev pub choice_of : ChaCha → Shape → Choice × ChaCha
-choice_of words (shape.Bool chance) =
-    let next = word_of words in
-    (choice.Bool (nat_lt (next.0 % 16) chance), next.1)
-
 -- the choice that a supply makes for a question, and the supply after it
 abbrev pub made : Supplied → Shape → Choice × Supplied
 made Simplest asked = (simplest asked, Simplest)
-made (Streamed words) asked =
-    let next = choice_of words asked in
-    (next.0, Streamed next.1)
+made (Streamed words) asked = (choice_of words asked, Streamed (words_after words (words_read words asked)))

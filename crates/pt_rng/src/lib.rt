@@ -5,5 +5,6 @@
 #![tactic(auto)]
 
 mod supply;
+mod words;
 
 pub use supply::Supply;

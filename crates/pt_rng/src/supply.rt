@@ -1,11 +1,12 @@
 ghost use Rattle.std.specs.Prelude.{◌≡◌, true, IfOk, IsOk};
 ghost use Rattle.pt_choice.specs.Kind.{admits, AsksSmall};
-ghost use Rattle.pt_rng.specs.Supplied.{Simplest, Streamed, key_bytes, start_of, supply_of_run, choice_of, made};
+ghost use Rattle.pt_rng.specs.Supplied.{Simplest, Streamed, key_bytes, start_of, supply_of_run, made};
 
-use pt_choice::{Choice, Kind, NoMemory, Shape, simplest};
+use crate::words::choice_from;
+use pt_choice::{Choice, Kind, NoMemory, simplest};
 use rand_chacha::ChaCha8Rng;
 use rand_core::SeedableRng;
-use rand_core::utils::NextWord;
+use std::alloc::Global;
 use std::marker::Model;
 
 /// Where the answers of a fresh run come from.
@@ -25,9 +26,11 @@ impl Model for Supply {
 
     ghost Value = { Supplied };
 
-    ghost use Rattle.pt_rng.specs.Source.{supplied_by};
+    ghost use Rattle.pt_rng.specs.Source.{supplied_by, IsSource};
 
     ghost view = { λ supply. supplied_by supply.source };
+
+    ghost invariant = { λ supply. IsSource supply.source };
 }
 
 impl Supply {
@@ -63,16 +66,16 @@ impl Supply {
         }
     }
 
-    /// The next choice, which the kind admits. A boolean takes no memory. After a refusal nothing is said of the
-    /// place in the stream.
-    pub fn next_choice(&mut self, kind: &Kind) -> Result<Choice, NoMemory>
+    /// The next choice, which the kind admits. A boolean and an integer take no memory. After a refusal nothing is
+    /// said of the place in the stream.
+    pub fn next_choice(&mut self, alloc: Global, kind: &Kind) -> Result<Choice, NoMemory>
         ensures made { IfOk result (λ choice. made self.old kind.now ≡ (choice, self.new)) }
         ensures admitted { IfOk result (λ choice. admits kind.now choice ≡ true) }
         ensures small { AsksSmall kind.now → IsOk result }
     {
         match &mut self.source {
-            Source::Simplest => simplest(kind),
-            Source::Words(words) => Ok(choice_from(words, kind)),
+            Source::Simplest => simplest(alloc, kind),
+            Source::Words(words) => choice_from(alloc, words, kind),
         }
     }
 }
@@ -83,12 +86,4 @@ fn key(seed: u64) -> [u8; 32]
     let mut key = [0; 32];
     key[..8].copy_from_slice(&seed.to_le_bytes());
     key
-}
-
-fn choice_from(words: &mut ChaCha8Rng, kind: &Kind) -> Choice
-    ensures { choice_of words.old kind.now ≡ (result, words.new) }
-{
-    match kind.shape() {
-        Shape::Bool { chance } => Choice::Bool(words.next_word() % 16 < u32::from(chance)),
-    }
 }
