@@ -9,9 +9,11 @@ mod choices;
 mod kind;
 mod memory;
 mod octets;
+mod seq;
 
 pub use choice::Choice;
 pub use choices::Choices;
 pub use kind::{Kind, Shape, admits, simplest};
 pub use memory::NoMemory;
 pub use octets::Octets;
+pub use seq::Seq;
