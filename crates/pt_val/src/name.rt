@@ -1,35 +1,148 @@
-ghost use Rattle.std.specs.Prelude.{◌≡◌, ◌≤◌, length, IfOk};
+ghost use Rattle.std.specs.Prelude.{◌≡◌, ◌↔◌, false, IsTrue, IfOk};
+ghost use Rattle.std.specs.List.{list_all};
+ghost use Rattle.pt_val.specs.Name.{is_name, is_name_byte};
 
 use pt_choice::{NoMemory, Octets};
+use std::alloc::Global;
 use std::marker::Model;
 
+/// A name that a suite gives to an item, a variable or a bundle.
+///
+/// It is a lower-case letter and at most 39 lower-case letters, digits and underscores after it, so it
+/// is safe as a part of a file's name and needs no escape in a report.
 #[derive(Debug, Drop)]
 pub struct Name {
-    octets: Octets,
+    bytes: Octets,
 }
 
 impl Model for Name {
-    ghost use Rattle.std.specs.Prelude.{List, ℕ, ◌≤◌, length};
+    ghost use Rattle.std.specs.Prelude.{List, ℕ, IsTrue};
+    ghost use Rattle.pt_val.specs.Name.{is_name};
 
     ghost Value = { List ℕ };
 
-    ghost view = { λ name. name.octets };
+    ghost view = { λ name. name.bytes };
 
-    ghost invariant = { λ name. length name.octets ≤ 40 };
+    ghost invariant = { λ name. IsTrue (is_name name.bytes) };
+}
+
+/// Why a text gives no name.
+#[derive(Clone, Copy, Debug, PartialEq, Eq)]
+pub enum NameStop {
+    /// The text has not the form of a name.
+    NotAName,
+    /// There was no memory for the name.
+    NoMemory,
+}
+
+impl From<NoMemory> for NameStop {
+    ghost use Rattle.std.specs.Prelude.{◌≡◌};
+    ghost use Rattle.pt_val.specs.declared.name.NameStop.TheVariants.{NoMemory};
+
+    ghost from_gives = { λ _ stop. stop ≡ NoMemory };
+
+    fn from(_: NoMemory) -> NameStop {
+        NameStop::NoMemory
+    }
 }
 
 impl Name {
-    pub fn as_slice(&self) -> &[u8]
-        ensures bytes { result.now ≡ self.now }
-        ensures short { length self.now ≤ 40 }
+    pub fn of(alloc: Global, text: &str) -> Result<Name, NameStop>
+        ensures name { IfOk result (λ name. name ≡ text.now) }
+        ensures form { IfOk result (λ _. IsTrue (is_name text.now)) }
+        ensures refused { (result ≡ Err NameStop.NotAName) ↔ (is_name text.now ≡ false) }
     {
-        self.octets.as_slice()
+        if !is_name(text.as_bytes()) {
+            return Err(NameStop::NotAName);
+        }
+        let bytes = Octets::of(alloc, text.as_bytes())?;
+        Ok(Name { bytes })
+    }
+
+    pub fn as_slice(&self) -> &[u8]
+        ensures same { result.now ≡ self.now }
+        ensures form { IsTrue (is_name self.now) }
+    {
+        self.bytes.as_slice()
     }
 
     pub fn copy(&self) -> Result<Name, NoMemory>
         ensures { IfOk result (λ name. name ≡ self.now) }
     {
-        let octets = self.octets.copy()?;
-        Ok(Name { octets })
+        let bytes = self.bytes.copy()?;
+        Ok(Name { bytes })
+    }
+}
+
+fn is_name(bytes: &[u8]) -> bool
+    ensures { result ≡ is_name bytes.now }
+{
+    match bytes.split_first() {
+        Some((first, rest)) => first.is_ascii_lowercase()
+            && are_name_bytes(rest)
+            && rest.len() <= 39,
+        None => false,
+    }
+}
+
+fn are_name_bytes(bytes: &[u8]) -> bool
+    ensures { result ≡ list_all is_name_byte bytes.now }
+{
+    bytes.iter().all(is_name_byte)
+}
+
+fn is_name_byte(byte: &u8) -> bool
+    ensures { result ≡ is_name_byte byte.now }
+{
+    matches!(*byte, b'a'..=b'z' | b'0'..=b'9' | b'_')
+}
+
+#[cfg(test)]
+mod tests {
+    use super::*;
+    use std::test::Fail;
+
+    const NAMES: [&str; 5] = [
+        "x1",
+        "a",
+        "z_09",
+        "for",
+        "abcdefghijklmnopqrstuvwxyz0123456789____",
+    ];
+
+    const OTHER_TEXTS: [&str; 11] = [
+        "X",
+        "",
+        "_a",
+        "1a",
+        "aB",
+        "a-b",
+        "a b",
+        "a`",
+        "a{",
+        "é",
+        "abcdefghijklmnopqrstuvwxyz0123456789_____",
+    ];
+
+    #[test]
+    fn a_name_is_a_letter_and_letters_digits_and_underscores(rt: HostRuntime) -> Result<(), Fail> {
+        for text in NAMES {
+            let name = Name::of(rt.alloc(), text)?;
+            assert!(rt; name.as_slice() == text.as_bytes(), "{text}");
+            assert!(rt; name.copy()?.as_slice() == text.as_bytes(), "{text}");
+        }
+        for text in OTHER_TEXTS {
+            let stop = Name::of(rt.alloc(), text).err();
+            assert_eq!(rt; stop, Some(NameStop::NotAName), "{text}");
+        }
+        Ok(())
+    }
+
+    fn shared<T: Send + Sync>(_: &T) {}
+
+    #[test]
+    fn names_pass_between_threads(rt: HostRuntime) -> Result<(), Fail> {
+        shared(&Name::of(rt.alloc(), "x1")?);
+        Ok(())
     }
 }
