@@ -63,7 +63,7 @@ impl Case {
             self.stopped = true;
             return Err(Stop::Overrun);
         }
-        let Ok(choice) = self.supply.next_choice(kind) else {
+        let Ok(choice) = self.supply.next_choice(*self.choices.allocator(), kind) else {
             return Err(Stop::NoMemory);
         };
         let Ok(kept) = choice.copy() else {
