@@ -1,3 +1,4 @@
+pub mod Ending
 pub mod Step
 pub mod State
 pub mod Run

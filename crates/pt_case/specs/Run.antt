@@ -4,7 +4,8 @@ use Rattle.pt_choice.specs.declared.choice.Choice.{Choice}
 use Rattle.pt_choice.specs.declared.kind.Shape.{Shape}
 use Rattle.pt_rng.specs.Supplied.{Supplied, made}
 use Rattle.pt_case.specs.declared.ending.Ending.{Ending}
-use Rattle.pt_case.specs.declared.ending.Ending.TheVariants.{Pass, Reject, Overrun, Fail}
+use Rattle.pt_case.specs.declared.ending.Ending.TheVariants.{Overrun}
+use Rattle.pt_case.specs.Ending.{is_overrun}
 use Rattle.pt_case.specs.declared.record.Record.{Record}
 use Rattle.pt_case.specs.Step.{Answer, Ask, End, Says, IsAsked}
 use Rattle.pt_case.specs.State.{State}
@@ -16,13 +17,6 @@ MakesAll supply (kind ∷ kinds) (choice ∷ choices) left =
     ((made supply kind).0 ≡ choice) × MakesAll (made supply kind).1 kinds choices left
 MakesAll supply [] (choice ∷ choices) left = ⊥
 MakesAll supply (kind ∷ kinds) [] left = ⊥
-
--- the run was refused a question
-abbrev pub is_overrun : Ending → Bool
-is_overrun Pass = false
-is_overrun Reject = false
-is_overrun Overrun = true
-is_overrun (Fail origin) = false
 
 -- The check said this after all the choices of a run, which ended so. Where it asks once more, 256 choices were made;
 -- a check that says Overrun by itself has no ending.

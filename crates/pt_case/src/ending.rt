@@ -1,3 +1,6 @@
+ghost use Rattle.std.specs.Prelude.{◌≡◌};
+ghost use Rattle.pt_case.specs.Ending.{is_pass, is_failure};
+
 /// Where a failure comes from. Two failures are alike exactly where their origins are equal.
 #[derive(Clone, Copy, Debug, PartialEq, Eq)]
 pub enum Origin {
@@ -16,4 +19,18 @@ pub enum Ending {
     Overrun,
     /// The example lacks the property.
     Fail(Origin),
+}
+
+impl Ending {
+    pub fn is_pass(self) -> bool
+        ensures { result ≡ is_pass self }
+    {
+        matches!(self, Ending::Pass)
+    }
+
+    pub fn is_failure(self) -> bool
+        ensures { result ≡ is_failure self }
+    {
+        matches!(self, Ending::Fail(_))
+    }
 }

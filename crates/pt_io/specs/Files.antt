@@ -1,5 +1,5 @@
 -- What the calls of an object of files do.
-use Rattle.std.specs.Prelude.{◌≡◌, ℕ, ◌<◌, ◌≤◌, Bool, true, false, List, [], ◌++◌, length, take, drop, Option, Some, None, IsSome, IfSome, is_some, Result, IsOk, IfOk, OnErr}
+use Rattle.std.specs.Prelude.{◌≡◌, ℕ, ◌<◌, ◌≤◌, Bool, true, false, List, [], ◌++◌, length, take, drop, Option, Some, None, IsSome, IfSome, IsSomeAnd, is_some, Result, IsOk, IfOk, OnErr}
 use Rattle.pt_io.specs.declared.files.IoFailed.{IoFailed}
 use Rattle.pt_io.specs.Faults.{Rose}
 
@@ -18,6 +18,14 @@ pub record IsSame (old new : Shown) : Type 0 where
   pub steady : new.steady ≡ old.steady
   pub later : old.faults ≤ new.faults
 
+-- where the files are told, there is one of this name, and this holds of its bytes
+abbrev pub HasBytes : Shown → List ℕ → (List ℕ → Type 0) → Type 0
+HasBytes files name P = IfSome files.named (λ content. IsSomeAnd (content name) P)
+
+-- where the files are told, there is none of this name
+abbrev pub HasNone : Shown → List ℕ → Type 0
+HasNone files name = IfSome files.named (λ content. content name ≡ None)
+
 -- The file of this name was chosen, or the call failed.
 pub record Chose (old : Shown) (name : List ℕ) (ok : Bool) (new : Shown) : Type 0 where
   pub same : IsSame old new
@@ -26,7 +34,7 @@ pub record Chose (old : Shown) (name : List ℕ) (ok : Bool) (new : Shown) : Typ
   pub nothing : ok ≡ false → IfSome new.left (λ left. left ≡ [])
   pub cause : ok ≡ false → Rose old.faults new.faults
   -- a steady object fails only where the name is absent
-  pub absent : ok ≡ false → old.steady ≡ true → IfSome old.named (λ content. content name ≡ None)
+  pub absent : ok ≡ false → old.steady ≡ true → HasNone old name
 
 -- The first bytes of what was left were moved into the buffer, or the call failed.
 pub record Moved (old : Shown) (before : List ℕ) (result : Result ℕ IoFailed) (after : List ℕ) (new : Shown) : Type 0 where

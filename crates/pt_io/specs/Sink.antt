@@ -13,6 +13,10 @@ pub record Written : Type 0 where
 abbrev pub Appends : Option (List ℕ) → List ℕ → Option (List ℕ) → Type 0
 Appends old piece new = new ≡ option_map (λ bytes. bytes ++ piece) old
 
+-- where the bytes are told, they grew by a first part of this piece
+abbrev pub AppendsPart : Option (List ℕ) → List ℕ → Option (List ℕ) → Type 0
+AppendsPart old piece new = (n : ℕ) × Appends old (take n piece) new
+
 -- The first bytes of the piece were written, or the call failed and wrote none.
 pub record Wrote (old : Written) (from : List ℕ) (result : Result ℕ IoFailed) (new : Written) : Type 0 where
   pub later : old.faults ≤ new.faults

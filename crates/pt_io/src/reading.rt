@@ -1,5 +1,6 @@
-ghost use Rattle.std.specs.Prelude.{◌≡◌, ◌<◌, ◌≤◌, ℕ, List, length, Some, None, true, IfSome, IfOk, IsErrOf};
+ghost use Rattle.std.specs.Prelude.{◌≡◌, ◌<◌, ◌≤◌, length, true, IfOk, IsErrOf};
 ghost use Rattle.pt_io.specs.Faults.{Rose};
+ghost use Rattle.pt_io.specs.Files.{HasBytes, HasNone};
 ghost use Rattle.pt_io.specs.declared.reading.ReadStop.TheVariants.{NoMemory as OutOfMemory};
 
 use crate::Files;
@@ -33,15 +34,13 @@ impl From<AllocError> for ReadStop {
 /// All the bytes of the file of this name. It ends on every file, also on one that grows while it is read, since each
 /// turn but the last takes a byte.
 pub fn read_whole<F: Files>(alloc: Global, files: &mut F, name: &str) -> Result<Octets, ReadStop>
-    ensures whole { IfOk result (λ bytes. IfSome (F.shows files.old).named (λ content. content name.now ≡ Some bytes)) }
+    ensures whole { IfOk result (λ bytes. HasBytes (F.shows files.old) name.now (λ there. there ≡ bytes)) }
     ensures small { IfOk result (λ bytes. length bytes ≤ MAX_BYTES) }
 
-    ensures large { IsErrOf result ReadStop.TooLarge → IfSome (F.shows files.old).named (λ content.
-        (bytes : List ℕ) × (content name.now ≡ Some bytes) × (MAX_BYTES < length bytes)) }
+    ensures large { IsErrOf result ReadStop.TooLarge → HasBytes (F.shows files.old) name.now (λ bytes. MAX_BYTES < length bytes) }
 
     ensures failed { IsErrOf result ReadStop.Failed → Rose (F.shows files.old).faults (F.shows files.new).faults }
-    ensures absent { IsErrOf result ReadStop.Failed → (F.shows files.old).steady ≡ true →
-        IfSome (F.shows files.old).named (λ content. content name.now ≡ None) }
+    ensures absent { IsErrOf result ReadStop.Failed → (F.shows files.old).steady ≡ true → HasNone (F.shows files.old) name.now }
 
     ensures later { (F.shows files.old).faults ≤ (F.shows files.new).faults }
 {

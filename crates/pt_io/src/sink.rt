@@ -1,6 +1,6 @@
-ghost use Rattle.std.specs.Prelude.{◌≡◌, ◌≤◌, ℕ, take, OnOk, OnErr};
+ghost use Rattle.std.specs.Prelude.{◌≡◌, ◌≤◌, OnOk, OnErr};
 ghost use Rattle.pt_io.specs.Faults.{Rose};
-ghost use Rattle.pt_io.specs.Sink.{Written, Wrote, Appends};
+ghost use Rattle.pt_io.specs.Sink.{Written, Wrote, Appends, AppendsPart};
 
 use crate::IoFailed;
 
@@ -17,7 +17,7 @@ pub trait Sink {
 /// Writes all of these bytes. After a failure a first part of them was written. Takes no memory.
 pub fn write_all<K: Sink>(sink: &mut K, from: &[u8]) -> Result<(), IoFailed>
     ensures all { OnOk result (Appends (K.shows sink.old).bytes from.now (K.shows sink.new).bytes) }
-    ensures part { OnErr result ((n : ℕ) × Appends (K.shows sink.old).bytes (take n from.now) (K.shows sink.new).bytes) }
+    ensures part { OnErr result (AppendsPart (K.shows sink.old).bytes from.now (K.shows sink.new).bytes) }
     ensures cause { OnErr result (Rose (K.shows sink.old).faults (K.shows sink.new).faults) }
     ensures later { (K.shows sink.old).faults ≤ (K.shows sink.new).faults }
 {

@@ -1,0 +1,5 @@
+pub mod Messages
+pub mod Runs
+pub mod Suites
+pub mod Words
+pub mod Written

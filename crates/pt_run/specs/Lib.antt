@@ -1,0 +1,6 @@
+pub mod Message
+pub mod Outcome
+pub mod Report
+pub mod Suite
+pub mod Words
+pub mod Verdict
