@@ -9,9 +9,11 @@ mod choices;
 mod kind;
 mod memory;
 mod octets;
+mod order;
 
 pub use choice::Choice;
 pub use choices::Choices;
-pub use kind::{Kind, Shape, admits, simplest};
+pub use kind::{Kind, Shape, admits, fit, simplest};
 pub use memory::NoMemory;
 pub use octets::Octets;
+pub use order::{cmp_choice, shortlex, shortlex_is_total};

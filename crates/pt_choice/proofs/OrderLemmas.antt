@@ -1,0 +1,80 @@
+-- The order of lists of choices is total and tells them apart.
+use Rattle.std.proofs.Common.{◌≡◌, ◌≢◌, ◌⊎◌, ℕ, ℤ, pos, negsuc, zero, suc, true, false, List, [], ◌∷◌, length, refl, sym, ap, ◌∙◌, subst, arith, inl, inr}
+use Rattle.std.specs.declared.cmp.Ordering.{Ordering}
+use Rattle.std.specs.declared.cmp.Ordering.TheVariants.{Less, Equal, Greater}
+use Rattle.std.specs.Ordering.{nat_cmp, ordering_then, ordering_reverse}
+use Rattle.std.specs.Cmp.{IsTotalOrder}
+use Rattle.std.specs.Cmp.Lexicographic.{slice_cmp}
+use Rattle.std.proofs.lemmas.Cmp.{on_total, then_total, lists_total, nat_cmp_total, nat_list_cmp_total, tied_itself}
+use Rattle.std.proofs.lemmas.Map.Lookups.{CmpEqualImpliesEq, exact_bytes}
+use Rattle.pt_choice.specs.declared.choice.Choice.{Choice}
+use Rattle.pt_choice.specs.declared.choice.Choice.TheVariants as choice
+use Rattle.pt_choice.specs.Order.{integer_place, choice_key, cmp_choice, shortlex, IsShorter, ExactlyOne}
+
+integer_place-tells : (a b : ℤ) → integer_place a ≡ integer_place b → a ≡ b
+integer_place-tells (pos zero) (pos zero) e = refl
+integer_place-tells (pos zero) (pos (suc b)) e = absurd (omega arith)
+integer_place-tells (pos zero) (negsuc b) e = absurd (omega arith)
+integer_place-tells (pos (suc a)) (pos zero) e = absurd (omega arith)
+integer_place-tells (pos (suc a)) (pos (suc b)) e = ap (λ n. pos (suc n)) (omega arith)
+integer_place-tells (pos (suc a)) (negsuc b) e = absurd (omega arith)
+integer_place-tells (negsuc a) (pos zero) e = absurd (omega arith)
+integer_place-tells (negsuc a) (pos (suc b)) e = absurd (omega arith)
+integer_place-tells (negsuc a) (negsuc b) e = ap negsuc (omega arith)
+
+-- choices of one key are one choice
+choice_key-tells : (a b : Choice) → choice_key a ≡ choice_key b → a ≡ b
+choice_key-tells (choice.Bool false) (choice.Bool false) e = refl
+choice_key-tells (choice.Bool true) (choice.Bool true) e = refl
+choice_key-tells (choice.Int a) (choice.Int b) e =
+    let same : integer_place a ≡ integer_place b = cc in
+    ap choice.Int (integer_place-tells a b same)
+choice_key-tells (choice.Bytes a) (choice.Bytes b) e = cc
+choice_key-tells (choice.Text a) (choice.Text b) e = cc
+choice_key-tells a (choice.Bool false) e = cc
+choice_key-tells a (choice.Bool true) e = cc
+choice_key-tells a b e = cc
+
+then_Equal : (first second : Ordering) → ordering_then first second ≡ Equal → (first ≡ Equal) × (second ≡ Equal)
+then_Equal Less second e = cc
+then_Equal Equal second e = (refl, e)
+then_Equal Greater second e = cc
+
+pub cmp_choice-total : IsTotalOrder cmp_choice
+cmp_choice-total = on_total choice_key nat_list_cmp_total
+
+pub cmp_choice-tells : CmpEqualImpliesEq cmp_choice
+cmp_choice-tells a b e = choice_key-tells a b (exact_bytes (choice_key a) (choice_key b) e)
+
+pub shortlex-total : IsTotalOrder shortlex
+shortlex-total = then_total (on_total length nat_cmp_total) (lists_total cmp_choice-total)
+
+members-tell : (a b : List Choice) → slice_cmp cmp_choice a b ≡ Equal → a ≡ b
+members-tell [] [] e = refl
+members-tell [] (y ∷ ys) e = cc
+members-tell (x ∷ xs) [] e = cc
+members-tell (x ∷ xs) (y ∷ ys) e =
+    let both = then_Equal (cmp_choice x y) (slice_cmp cmp_choice xs ys) e in
+    let first = cmp_choice-tells x y both.0 in
+    let others = members-tell xs ys both.1 in
+    cc
+
+pub shortlex-tells : CmpEqualImpliesEq shortlex
+shortlex-tells a b e = members-tell a b (then_Equal (nat_cmp (length a) (length b)) (slice_cmp cmp_choice a b) e).1
+
+same-ties : (a b : List Choice) → a ≡ b → shortlex a b ≡ Equal
+same-ties a b same = subst (λ (x : List Choice). shortlex a x ≡ Equal) same (tied_itself shortlex-total a)
+
+one-of : (a b : List Choice) (order : Ordering) → shortlex a b ≡ order → ExactlyOne (IsShorter a b) (a ≡ b) (IsShorter b a)
+one-of a b Less e =
+    let back : shortlex b a ≡ Greater = shortlex-total.antisymm b a ∙ ap ordering_reverse e in
+    inl (e, (λ (same : a ≡ b). let tie = same-ties a b same in cc), (λ (longer : IsShorter b a). cc))
+one-of a b Equal e =
+    let back : shortlex b a ≡ Equal = shortlex-total.antisymm b a ∙ ap ordering_reverse e in
+    inr (inl ((λ (shorter : IsShorter a b). cc), shortlex-tells a b e, (λ (longer : IsShorter b a). cc)))
+one-of a b Greater e =
+    let back : shortlex b a ≡ Less = shortlex-total.antisymm b a ∙ ap ordering_reverse e in
+    inr (inr ((λ (shorter : IsShorter a b). cc), (λ (same : a ≡ b). let tie = same-ties a b same in cc), back))
+
+pub exactly_one : (a b : List Choice) → ExactlyOne (IsShorter a b) (a ≡ b) (IsShorter b a)
+exactly_one a b = one-of a b (shortlex a b) refl
