@@ -9,7 +9,7 @@ use Rattle.std.proofs.lemmas.Cmp.{on_total, then_total, lists_total, nat_cmp_tot
 use Rattle.std.proofs.lemmas.Map.Lookups.{CmpEqualImpliesEq, exact_bytes}
 use Rattle.pt_choice.specs.declared.choice.Choice.{Choice}
 use Rattle.pt_choice.specs.declared.choice.Choice.TheVariants as choice
-use Rattle.pt_choice.specs.Order.{integer_place, choice_key, cmp_choice, shortlex, IsShorter, ExactlyOne}
+use Rattle.pt_choice.specs.Order.{integer_place, choice_key, cmp_choice, shortlex, ExactlyOne, IsStrictOrder}
 
 integer_place-tells : (a b : ℤ) → integer_place a ≡ integer_place b → a ≡ b
 integer_place-tells (pos zero) (pos zero) e = refl
@@ -62,19 +62,24 @@ members-tell (x ∷ xs) (y ∷ ys) e =
 pub shortlex-tells : CmpEqualImpliesEq shortlex
 shortlex-tells a b e = members-tell a b (then_Equal (nat_cmp (length a) (length b)) (slice_cmp cmp_choice a b) e).1
 
-same-ties : (a b : List Choice) → a ≡ b → shortlex a b ≡ Equal
-same-ties a b same = subst (λ (x : List Choice). shortlex a x ≡ Equal) same (tied_itself shortlex-total a)
+-- of an order that tells what it compares apart, "comes before" is strict and total
+module _ {X : Type 0} (cmp : X → X → Ordering) (order : IsTotalOrder cmp) (tells : CmpEqualImpliesEq cmp) where
+  abbrev Before : X → X → Type 0
+  Before a b = cmp a b ≡ Less
 
-one-of : (a b : List Choice) (order : Ordering) → shortlex a b ≡ order → ExactlyOne (IsShorter a b) (a ≡ b) (IsShorter b a)
-one-of a b Less e =
-    let back : shortlex b a ≡ Greater = shortlex-total.antisymm b a ∙ ap ordering_reverse e in
-    inl (e, (λ (same : a ≡ b). let tie = same-ties a b same in cc), (λ (longer : IsShorter b a). cc))
-one-of a b Equal e =
-    let back : shortlex b a ≡ Equal = shortlex-total.antisymm b a ∙ ap ordering_reverse e in
-    inr (inl ((λ (shorter : IsShorter a b). cc), shortlex-tells a b e, (λ (longer : IsShorter b a). cc)))
-one-of a b Greater e =
-    let back : shortlex b a ≡ Less = shortlex-total.antisymm b a ∙ ap ordering_reverse e in
-    inr (inr ((λ (shorter : IsShorter a b). cc), (λ (same : a ≡ b). let tie = same-ties a b same in cc), back))
+  same-ties : (a b : X) → a ≡ b → cmp a b ≡ Equal
+  same-ties a b same = subst (λ (x : X). cmp a x ≡ Equal) same (tied_itself order a)
 
-pub exactly_one : (a b : List Choice) → ExactlyOne (IsShorter a b) (a ≡ b) (IsShorter b a)
-exactly_one a b = one-of a b (shortlex a b) refl
+  one_of : (a b : X) (answer : Ordering) → cmp a b ≡ answer → ExactlyOne (Before a b) (a ≡ b) (Before b a)
+  one_of a b Less e =
+      let back : cmp b a ≡ Greater = order.antisymm b a ∙ ap ordering_reverse e in
+      inl (e, (λ (same : a ≡ b). let tie = same-ties a b same in cc), (λ (after : Before b a). cc))
+  one_of a b Equal e =
+      let back : cmp b a ≡ Equal = order.antisymm b a ∙ ap ordering_reverse e in
+      inr (inl ((λ (before : Before a b). cc), tells a b e, (λ (after : Before b a). cc)))
+  one_of a b Greater e =
+      let back : cmp b a ≡ Less = order.antisymm b a ∙ ap ordering_reverse e in
+      inr (inr ((λ (before : Before a b). cc), (λ (same : a ≡ b). let tie = same-ties a b same in cc), back))
+
+  pub strict : IsStrictOrder Before
+  strict = record { total = λ a b. one_of a b (cmp a b) refl; transitive = order.trans }

@@ -40,3 +40,8 @@ IsShorter a b = shortlex a b ≡ Less
 -- one of three facts holds, and no other
 abbrev pub ExactlyOne : Type 0 → Type 0 → Type 0 → Type 0
 ExactlyOne P Q R = (P × ¬ Q × ¬ R) ⊎ ((¬ P × Q × ¬ R) ⊎ (¬ P × ¬ Q × R))
+
+-- of any two things one comes before the other or they are the same, and what comes before comes before all that follows
+pub record IsStrictOrder {X : Type 0} (Before : X → X → Type 0) : Type 0 where
+  pub total : (a b : X) → ExactlyOne (Before a b) (a ≡ b) (Before b a)
+  pub transitive : (a b c : X) → Before a b → Before b c → Before a c

@@ -16,4 +16,4 @@ pub use choices::Choices;
 pub use kind::{Kind, Shape, admits, fit, simplest};
 pub use memory::NoMemory;
 pub use octets::Octets;
-pub use order::{cmp_choice, shortlex, shortlex_is_total};
+pub use order::{cmp_choice, orders_are_total, shortlex};

@@ -2,11 +2,10 @@
 //!
 //! An order by length first makes each reduction end soon, and a shorter list is mostly the plainer example.
 
-ghost use Rattle.std.specs.Prelude.{◌≡◌, length, List};
+ghost use Rattle.std.specs.Prelude.{◌≡◌, length};
 ghost use Rattle.std.specs.Ordering.{nat_cmp, ordering_then};
 ghost use Rattle.std.specs.Cmp.Lexicographic.{slice_cmp};
-ghost use Rattle.pt_choice.specs.declared.choice.Choice.{Choice};
-ghost use Rattle.pt_choice.specs.Order.{integer_place, cmp_choice, shortlex, IsShorter, ExactlyOne};
+ghost use Rattle.pt_choice.specs.Order.{integer_place, cmp_choice, shortlex, IsBelow, IsShorter, IsStrictOrder};
 
 use crate::{Choice, Octets};
 use std::cmp::Ordering;
@@ -67,9 +66,10 @@ fn cmp_members(a: &[Choice], b: &[Choice]) -> Ordering
     Ordering::Equal
 }
 
-/// The order of lists is a strict and total one. This function does nothing: its contract is that law.
-pub fn shortlex_is_total()
-    ensures one { (a b : List Choice) → ExactlyOne (IsShorter a b) (a ≡ b) (IsShorter b a) }
-    ensures transitive { (a b c : List Choice) → IsShorter a b → IsShorter b c → IsShorter a c }
+/// Both orders are strict and total: of two different choices, or lists, exactly one comes before the other. This
+/// function does nothing: its contract is that law.
+pub fn orders_are_total()
+    ensures choices { IsStrictOrder IsBelow }
+    ensures lists { IsStrictOrder IsShorter }
 {
 }
