@@ -10,6 +10,8 @@ mod kind;
 mod memory;
 mod octets;
 mod order;
+#[cfg(test)]
+mod tests;
 
 pub use choice::Choice;
 pub use choices::Choices;

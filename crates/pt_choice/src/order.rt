@@ -71,5 +71,4 @@ fn cmp_members(a: &[Choice], b: &[Choice]) -> Ordering
 pub fn orders_are_total()
     ensures choices { IsStrictOrder IsBelow }
     ensures lists { IsStrictOrder IsShorter }
-{
-}
+{}
