@@ -4,17 +4,26 @@ use crate::{
     Choice, Choices, Kind, NoMemory, Octets, Shape, admits, cmp_choice, fit, shortlex, simplest,
 };
 use std::alloc::Global;
-use std::cmp::Ordering;
 use std::test::Fail;
 
 const WIDEST: i128 = 0xffff_ffff_ffff_ffff;
 
-fn bytes(alloc: Global, of: &[u8]) -> Result<Choice, NoMemory> {
-    Ok(Choice::Bytes(Octets::of(alloc, of)?))
+// A choice as a table writes it.
+#[derive(Clone, Copy, Debug)]
+enum Sample {
+    Flag(bool),
+    Number(i128),
+    Bytes(&'static [u8]),
+    Text(&'static [u8]),
 }
 
-fn text(alloc: Global, of: &[u8]) -> Result<Choice, NoMemory> {
-    Ok(Choice::Text(Octets::of(alloc, of)?))
+fn made(alloc: Global, sample: Sample) -> Result<Choice, NoMemory> {
+    match sample {
+        Sample::Flag(value) => Ok(Choice::Bool(value)),
+        Sample::Number(value) => Ok(Choice::Int(value)),
+        Sample::Bytes(bytes) => Ok(Choice::Bytes(Octets::of(alloc, bytes)?)),
+        Sample::Text(places) => Ok(Choice::Text(Octets::of(alloc, places)?)),
+    }
 }
 
 #[test]
@@ -72,45 +81,97 @@ fn kinds_of_lists_keep_their_limits(rt: HostRuntime) {
 #[test]
 fn an_answer_fits_or_gives_way_to_the_simplest(rt: HostRuntime) -> Result<(), Fail> {
     let alloc = rt.alloc();
-    let flag = Kind::of_bool(8).ok_or("kind")?;
-    let number = Kind::of_int(0, 1000).ok_or("kind")?;
-    let widest = Kind::of_int(-1, WIDEST - 1).ok_or("kind")?;
-    let some_bytes = Kind::of_bytes(2, 4).ok_or("kind")?;
-    let some_text = Kind::of_text(2, 4, 3).ok_or("kind")?;
-    let any_text = Kind::of_text(0, 64, 256).ok_or("kind")?;
     for (kind, given, want) in [
-        (flag, Choice::Bool(true), Choice::Bool(true)),
-        (flag, Choice::Int(1), Choice::Bool(false)),
-        (number, Choice::Bool(true), Choice::Int(0)),
-        (number, Choice::Int(1000), Choice::Int(1000)),
-        (number, Choice::Int(1001), Choice::Int(0)),
-        (number, Choice::Int(-1), Choice::Int(0)),
-        (widest, Choice::Int(WIDEST - 1), Choice::Int(WIDEST - 1)),
-        (widest, Choice::Int(-1), Choice::Int(-1)),
-        (widest, Choice::Int(-2), Choice::Int(0)),
-        (some_bytes, bytes(alloc, &[7])?, bytes(alloc, &[0, 0])?),
+        (Kind::of_bool(8), Sample::Flag(true), Sample::Flag(true)),
+        (Kind::of_bool(8), Sample::Number(1), Sample::Flag(false)),
+        (Kind::of_int(0, 1000), Sample::Flag(true), Sample::Number(0)),
         (
-            some_bytes,
-            bytes(alloc, &[7, 255])?,
-            bytes(alloc, &[7, 255])?,
+            Kind::of_int(0, 1000),
+            Sample::Number(1000),
+            Sample::Number(1000),
         ),
-        (some_bytes, text(alloc, &[7, 7])?, bytes(alloc, &[0, 0])?),
-        (some_text, text(alloc, &[0, 3])?, text(alloc, &[0, 0])?),
-        (some_text, text(alloc, &[0, 2])?, text(alloc, &[0, 2])?),
         (
-            some_text,
-            text(alloc, &[1, 1, 1, 1, 1])?,
-            text(alloc, &[0, 0])?,
+            Kind::of_int(0, 1000),
+            Sample::Number(1001),
+            Sample::Number(0),
         ),
-        (any_text, text(alloc, &[255])?, text(alloc, &[255])?),
-        (any_text, bytes(alloc, &[])?, text(alloc, &[])?),
+        (
+            Kind::of_int(-1, WIDEST - 1),
+            Sample::Number(WIDEST - 1),
+            Sample::Number(WIDEST - 1),
+        ),
+        (
+            Kind::of_int(-1, WIDEST - 1),
+            Sample::Number(-1),
+            Sample::Number(-1),
+        ),
+        (
+            Kind::of_int(-1, WIDEST - 1),
+            Sample::Number(-2),
+            Sample::Number(0),
+        ),
+        (
+            Kind::of_bytes(2, 4),
+            Sample::Bytes(b"a"),
+            Sample::Bytes(&[0, 0]),
+        ),
+        (
+            Kind::of_bytes(2, 4),
+            Sample::Bytes(b"ab"),
+            Sample::Bytes(b"ab"),
+        ),
+        (
+            Kind::of_bytes(2, 4),
+            Sample::Text(b"ab"),
+            Sample::Bytes(&[0, 0]),
+        ),
+        (
+            Kind::of_text(2, 4, 3),
+            Sample::Text(&[0, 3]),
+            Sample::Text(&[0, 0]),
+        ),
+        (
+            Kind::of_text(2, 4, 3),
+            Sample::Text(&[0, 2]),
+            Sample::Text(&[0, 2]),
+        ),
+        (
+            Kind::of_text(2, 4, 3),
+            Sample::Text(&[1, 1, 1, 1, 1]),
+            Sample::Text(&[0, 0]),
+        ),
+        (
+            Kind::of_text(0, 64, 256),
+            Sample::Text(&[255]),
+            Sample::Text(&[255]),
+        ),
+        (
+            Kind::of_text(0, 64, 256),
+            Sample::Bytes(b""),
+            Sample::Text(b""),
+        ),
     ] {
-        let fitted = fit(alloc, &kind, &given)?;
-        assert_eq!(rt; fitted, want, "{given:?}");
+        let kind = kind.ok_or("a kind")?;
+        let given = made(alloc, given)?;
+        let want = made(alloc, want)?;
+        assert_eq!(rt; fit(alloc, &kind, &given)?, want, "{given:?}");
         assert_eq!(rt; admits(&kind, &given), given == want, "{given:?}");
-        if given != want {
-            assert_eq!(rt; simplest(alloc, &kind)?, want);
-        }
+    }
+    Ok(())
+}
+
+#[test]
+fn the_simplest_is_false_or_zero_or_zeros(rt: HostRuntime) -> Result<(), Fail> {
+    let alloc = rt.alloc();
+    for (kind, want) in [
+        (Kind::of_bool(15), Sample::Flag(false)),
+        (Kind::of_int(-7, 0), Sample::Number(0)),
+        (Kind::of_bytes(2, 4), Sample::Bytes(&[0, 0])),
+        (Kind::of_text(1, 4, 3), Sample::Text(&[0])),
+        (Kind::of_text(0, 4, 3), Sample::Text(&[])),
+    ] {
+        let kind = kind.ok_or("a kind")?;
+        assert_eq!(rt; simplest(alloc, &kind)?, made(alloc, want)?);
     }
     Ok(())
 }
@@ -118,25 +179,31 @@ fn an_answer_fits_or_gives_way_to_the_simplest(rt: HostRuntime) -> Result<(), Fa
 #[test]
 fn choices_stand_in_order(rt: HostRuntime) -> Result<(), Fail> {
     let alloc = rt.alloc();
-    let mut ascending = Choices::empty(alloc);
-    for flag in [false, true] {
-        ascending.push(Choice::Bool(flag))?;
-    }
-    for value in [0, 1, -1, 2, -2, 5, i128::MAX, -i128::MAX, i128::MIN] {
-        ascending.push(Choice::Int(value))?;
-    }
-    ascending.push(bytes(alloc, &[])?)?;
-    ascending.push(bytes(alloc, &[0])?)?;
-    ascending.push(bytes(alloc, &[255])?)?;
-    ascending.push(bytes(alloc, &[0, 9])?)?;
-    ascending.push(bytes(alloc, &[1, 0])?)?;
-    ascending.push(text(alloc, &[])?)?;
-    ascending.push(text(alloc, &[255])?)?;
-    ascending.push(text(alloc, &[0, 0])?)?;
-    assert_eq!(rt; ascending.len(), 19);
-    for (i, a) in ascending.as_slice().iter().enumerate() {
-        for (j, b) in ascending.as_slice().iter().enumerate() {
-            assert_eq!(rt; cmp_choice(a, b), i.cmp(&j), "{a:?} to {b:?}");
+    let ascending = [
+        Sample::Flag(false),
+        Sample::Flag(true),
+        Sample::Number(0),
+        Sample::Number(1),
+        Sample::Number(-1),
+        Sample::Number(2),
+        Sample::Number(-2),
+        Sample::Number(5),
+        Sample::Number(i128::MAX),
+        Sample::Number(-i128::MAX),
+        Sample::Number(i128::MIN),
+        Sample::Bytes(&[]),
+        Sample::Bytes(&[0]),
+        Sample::Bytes(&[255]),
+        Sample::Bytes(&[0, 9]),
+        Sample::Bytes(&[1, 0]),
+        Sample::Text(&[]),
+        Sample::Text(&[255]),
+        Sample::Text(&[0, 0]),
+    ];
+    for (i, a) in ascending.iter().enumerate() {
+        for (j, b) in ascending.iter().enumerate() {
+            let order = cmp_choice(&made(alloc, *a)?, &made(alloc, *b)?);
+            assert_eq!(rt; order, i.cmp(&j), "{a:?} to {b:?}");
         }
     }
     Ok(())
@@ -161,10 +228,14 @@ fn lists_stand_in_order(rt: HostRuntime) {
 fn copies_are_the_same(rt: HostRuntime) -> Result<(), Fail> {
     let alloc = rt.alloc();
     let mut choices = Choices::empty(alloc);
-    choices.push(Choice::Bool(true))?;
-    choices.push(Choice::Int(-3))?;
-    choices.push(bytes(alloc, &[0, 255])?)?;
-    choices.push(text(alloc, &[4, 2])?)?;
+    for sample in [
+        Sample::Number(-3),
+        Sample::Bytes(&[0, 255]),
+        Sample::Text(&[4, 2]),
+    ] {
+        choices.push(made(alloc, sample)?)?;
+    }
+    assert_eq!(rt; choices.len(), 3);
     assert_eq!(rt; choices.copy()?.as_slice(), choices.as_slice());
     let mut octets = Octets::of(alloc, b"a")?;
     octets.push(b'b')?;
