@@ -3,6 +3,7 @@
 use crate::{
     Choice, Choices, Kind, NoMemory, Octets, Shape, admits, cmp_choice, fit, shortlex, simplest,
 };
+use Sample::{Bytes, Flag, Number, Text};
 use std::alloc::Global;
 use std::test::Fail;
 
@@ -19,10 +20,10 @@ enum Sample {
 
 fn made(alloc: Global, sample: Sample) -> Result<Choice, NoMemory> {
     match sample {
-        Sample::Flag(value) => Ok(Choice::Bool(value)),
-        Sample::Number(value) => Ok(Choice::Int(value)),
-        Sample::Bytes(bytes) => Ok(Choice::Bytes(Octets::of(alloc, bytes)?)),
-        Sample::Text(places) => Ok(Choice::Text(Octets::of(alloc, places)?)),
+        Flag(value) => Ok(Choice::Bool(value)),
+        Number(value) => Ok(Choice::Int(value)),
+        Bytes(bytes) => Ok(Choice::Bytes(Octets::of(alloc, bytes)?)),
+        Text(places) => Ok(Choice::Text(Octets::of(alloc, places)?)),
     }
 }
 
@@ -82,74 +83,32 @@ fn kinds_of_lists_keep_their_limits(rt: HostRuntime) {
 fn an_answer_fits_or_gives_way_to_the_simplest(rt: HostRuntime) -> Result<(), Fail> {
     let alloc = rt.alloc();
     for (kind, given, want) in [
-        (Kind::of_bool(8), Sample::Flag(true), Sample::Flag(true)),
-        (Kind::of_bool(8), Sample::Number(1), Sample::Flag(false)),
-        (Kind::of_int(0, 1000), Sample::Flag(true), Sample::Number(0)),
-        (
-            Kind::of_int(0, 1000),
-            Sample::Number(1000),
-            Sample::Number(1000),
-        ),
-        (
-            Kind::of_int(0, 1000),
-            Sample::Number(1001),
-            Sample::Number(0),
-        ),
+        (Kind::of_bool(8), Flag(true), Flag(true)),
+        (Kind::of_bool(8), Number(1), Flag(false)),
+        (Kind::of_int(0, 1000), Flag(true), Number(0)),
+        (Kind::of_int(0, 1000), Number(1000), Number(1000)),
+        (Kind::of_int(0, 1000), Number(1001), Number(0)),
         (
             Kind::of_int(-1, WIDEST - 1),
-            Sample::Number(WIDEST - 1),
-            Sample::Number(WIDEST - 1),
+            Number(WIDEST - 1),
+            Number(WIDEST - 1),
         ),
-        (
-            Kind::of_int(-1, WIDEST - 1),
-            Sample::Number(-1),
-            Sample::Number(-1),
-        ),
-        (
-            Kind::of_int(-1, WIDEST - 1),
-            Sample::Number(-2),
-            Sample::Number(0),
-        ),
-        (
-            Kind::of_bytes(2, 4),
-            Sample::Bytes(b"a"),
-            Sample::Bytes(&[0, 0]),
-        ),
-        (
-            Kind::of_bytes(2, 4),
-            Sample::Bytes(b"ab"),
-            Sample::Bytes(b"ab"),
-        ),
-        (
-            Kind::of_bytes(2, 4),
-            Sample::Text(b"ab"),
-            Sample::Bytes(&[0, 0]),
-        ),
+        (Kind::of_int(-1, WIDEST - 1), Number(-1), Number(-1)),
+        (Kind::of_int(-1, WIDEST - 1), Number(-2), Number(0)),
+        (Kind::of_bytes(2, 4), Bytes(b"a"), Bytes(&[0, 0])),
+        (Kind::of_bytes(2, 4), Bytes(b"ab"), Bytes(b"ab")),
+        (Kind::of_bytes(2, 4), Text(b"ab"), Bytes(&[0, 0])),
+        (Kind::of_text(2, 4, 3), Text(&[0, 3]), Text(&[0, 0])),
+        (Kind::of_text(2, 4, 3), Text(&[0, 2]), Text(&[0, 2])),
         (
             Kind::of_text(2, 4, 3),
-            Sample::Text(&[0, 3]),
-            Sample::Text(&[0, 0]),
+            Text(&[1, 1, 1, 1, 1]),
+            Text(&[0, 0]),
         ),
-        (
-            Kind::of_text(2, 4, 3),
-            Sample::Text(&[0, 2]),
-            Sample::Text(&[0, 2]),
-        ),
-        (
-            Kind::of_text(2, 4, 3),
-            Sample::Text(&[1, 1, 1, 1, 1]),
-            Sample::Text(&[0, 0]),
-        ),
-        (
-            Kind::of_text(0, 64, 256),
-            Sample::Text(&[255]),
-            Sample::Text(&[255]),
-        ),
-        (
-            Kind::of_text(0, 64, 256),
-            Sample::Bytes(b""),
-            Sample::Text(b""),
-        ),
+        (Kind::of_text(0, 64, 1), Text(&[0]), Text(&[0])),
+        (Kind::of_text(0, 64, 1), Text(&[1]), Text(&[])),
+        (Kind::of_text(0, 64, 256), Text(&[255]), Text(&[255])),
+        (Kind::of_text(0, 64, 256), Bytes(b""), Text(b"")),
     ] {
         let kind = kind.ok_or("a kind")?;
         let given = made(alloc, given)?;
@@ -164,11 +123,12 @@ fn an_answer_fits_or_gives_way_to_the_simplest(rt: HostRuntime) -> Result<(), Fa
 fn the_simplest_is_false_or_zero_or_zeros(rt: HostRuntime) -> Result<(), Fail> {
     let alloc = rt.alloc();
     for (kind, want) in [
-        (Kind::of_bool(15), Sample::Flag(false)),
-        (Kind::of_int(-7, 0), Sample::Number(0)),
-        (Kind::of_bytes(2, 4), Sample::Bytes(&[0, 0])),
-        (Kind::of_text(1, 4, 3), Sample::Text(&[0])),
-        (Kind::of_text(0, 4, 3), Sample::Text(&[])),
+        (Kind::of_bool(15), Flag(false)),
+        (Kind::of_int(-7, 0), Number(0)),
+        (Kind::of_bytes(2, 4), Bytes(&[0, 0])),
+        (Kind::of_text(1, 4, 3), Text(&[0])),
+        (Kind::of_text(0, 4, 3), Text(&[])),
+        (Kind::of_bytes(64, 64), Bytes(&[0; 64])),
     ] {
         let kind = kind.ok_or("a kind")?;
         assert_eq!(rt; simplest(alloc, &kind)?, made(alloc, want)?);
@@ -180,25 +140,25 @@ fn the_simplest_is_false_or_zero_or_zeros(rt: HostRuntime) -> Result<(), Fail> {
 fn choices_stand_in_order(rt: HostRuntime) -> Result<(), Fail> {
     let alloc = rt.alloc();
     let ascending = [
-        Sample::Flag(false),
-        Sample::Flag(true),
-        Sample::Number(0),
-        Sample::Number(1),
-        Sample::Number(-1),
-        Sample::Number(2),
-        Sample::Number(-2),
-        Sample::Number(5),
-        Sample::Number(i128::MAX),
-        Sample::Number(-i128::MAX),
-        Sample::Number(i128::MIN),
-        Sample::Bytes(&[]),
-        Sample::Bytes(&[0]),
-        Sample::Bytes(&[255]),
-        Sample::Bytes(&[0, 9]),
-        Sample::Bytes(&[1, 0]),
-        Sample::Text(&[]),
-        Sample::Text(&[255]),
-        Sample::Text(&[0, 0]),
+        Flag(false),
+        Flag(true),
+        Number(0),
+        Number(1),
+        Number(-1),
+        Number(2),
+        Number(-2),
+        Number(5),
+        Number(i128::MAX),
+        Number(-i128::MAX),
+        Number(i128::MIN),
+        Bytes(&[]),
+        Bytes(&[0]),
+        Bytes(&[255]),
+        Bytes(&[0, 9]),
+        Bytes(&[1, 0]),
+        Text(&[]),
+        Text(&[255]),
+        Text(&[0, 0]),
     ];
     for (i, a) in ascending.iter().enumerate() {
         for (j, b) in ascending.iter().enumerate() {
@@ -228,11 +188,7 @@ fn lists_stand_in_order(rt: HostRuntime) {
 fn copies_are_the_same(rt: HostRuntime) -> Result<(), Fail> {
     let alloc = rt.alloc();
     let mut choices = Choices::empty(alloc);
-    for sample in [
-        Sample::Number(-3),
-        Sample::Bytes(&[0, 255]),
-        Sample::Text(&[4, 2]),
-    ] {
+    for sample in [Number(-3), Bytes(&[0, 255]), Text(&[4, 2])] {
         choices.push(made(alloc, sample)?)?;
     }
     assert_eq!(rt; choices.len(), 3);
