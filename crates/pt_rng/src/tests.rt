@@ -1,11 +1,10 @@
 //! Choices from words that a second implementation of the cipher gave, worked out from them by hand.
 
 use crate::Supply;
+use Sample::{Bytes, Flag, Number, Text};
 use pt_choice::{Choice, Kind, NoMemory, Octets};
 use std::alloc::Global;
 use std::test::Fail;
-
-use Sample::{Bytes, Flag, Number, Text};
 
 // A choice as a table writes it.
 #[derive(Clone, Copy, Debug)]
