@@ -26,7 +26,7 @@ pub enum Shape {
 }
 
 /// A shape within its limits.
-#[derive(Clone, Copy, Debug)]
+#[derive(Clone, Copy, Debug, PartialEq, Eq)]
 pub struct Kind {
     shape: Shape,
 }

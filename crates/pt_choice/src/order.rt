@@ -37,7 +37,8 @@ fn cmp_integers(a: i128, b: i128) -> Ordering
 }
 
 fn cmp_octets(a: &Octets, b: &Octets) -> Ordering
-    ensures { result ≡ ordering_then (nat_cmp (length a.now) (length b.now)) (slice_cmp nat_cmp a.now b.now) }
+    ensures { result
+        ≡ ordering_then (nat_cmp (length a.now) (length b.now)) (slice_cmp nat_cmp a.now b.now) }
 {
     a.len().cmp(&b.len()).then(a.as_slice().cmp(&b.as_slice()))
 }

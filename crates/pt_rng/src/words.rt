@@ -3,9 +3,9 @@
 //! Short runs are to meet the ends of a range and 0 often, since faults stand there: three of eight integers are one
 //! of these, and cost one word.
 
-ghost use Rattle.std.specs.Prelude.{◌≡◌, ◌<◌, ◌≤◌, ◌^◌, true, IfOk, OnOk, IsOk};
+ghost use Rattle.std.specs.Prelude.{◌≡◌, ◌+◌, ◌<◌, ◌≤◌, ◌^◌, true, IfOk, OnOk, IsOk};
 ghost use Rattle.pt_choice.specs.Kind.{admits, AsksSmall, IsShape};
-ghost use Rattle.pt_choice.specs.declared.kind.Shape.TheVariants.{Int, Bytes};
+ghost use Rattle.pt_choice.specs.declared.kind.Shape.TheVariants.{Int};
 ghost use Rattle.pt_rng.specs.Words.{nth_word, words_after, length_of, numbers_of, integer_of, choice_of, words_read};
 
 use pt_choice::{Choice, Kind, NoMemory, Octets, Shape};
@@ -73,8 +73,10 @@ fn octets_from(
     requires ordered { min ≤ max }
     requires some { 1 ≤ size }
     requires bytes { size ≤ 256 }
-    ensures made { IfOk result (λ octets. octets ≡ numbers_of words.old size (length_of words.old min max)) }
-    ensures moved { OnOk result (words.new ≡ words_after words.old (words_read words.old (Bytes min max))) }
+    ensures made { let count = length_of words.old min max in
+        IfOk result (λ octets. octets ≡ numbers_of words.old size count) }
+    ensures moved { let count = length_of words.old min max in
+        OnOk result (words.new ≡ words_after words.old (1 + count)) }
     ensures place { words.new.word_pos < 2 ^ 68 }
 {
     let count = u32::from(min) + next_word(words) % (u32::from(max - min) + 1);
