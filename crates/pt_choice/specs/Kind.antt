@@ -1,5 +1,5 @@
 -- What the kinds of choices are, and which choices answer them.
-use Rattle.std.specs.Prelude.{◌^◌, ◌-◌, ◌≤◌, ◌≤ℤ◌, ◌-ℤ◌, ◌&&◌, Bool, true, false, pos, int_le, nat_le, nat_lt, length, replicate}
+use Rattle.std.specs.Prelude.{◌^◌, ◌-◌, ◌≤◌, ◌≤ℤ◌, ◌-ℤ◌, ◌&&◌, Bool, true, false, pos, int_le, nat_le, nat_lt, length, replicate, if◌then◌else◌}
 use Rattle.std.specs.List.{list_all}
 use Rattle.pt_choice.specs.declared.kind.Shape.{Shape}
 use Rattle.pt_choice.specs.declared.kind.Shape.TheVariants as shape
@@ -28,6 +28,10 @@ simplest (shape.Bool chance) = choice.Bool false
 simplest (shape.Int lo hi) = choice.Int (pos 0)
 simplest (shape.Bytes min max) = choice.Bytes (replicate min 0)
 simplest (shape.Text min max size) = choice.Text (replicate min 0)
+
+-- the choice itself where it is admitted, and else the simplest one
+abbrev pub fit : Shape → Choice → Choice
+fit asked given = if admits asked given then given else simplest asked
 
 -- a choice of this shape holds nothing in memory of its own
 abbrev pub AsksSmall : Shape → Type 0

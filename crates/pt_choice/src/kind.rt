@@ -1,7 +1,7 @@
 ghost use Rattle.std.specs.Prelude.{◌≡◌, ◌&&◌, true, nat_le, nat_lt, IfOk, IsOk, SomeIff};
 ghost use Rattle.std.specs.List.{list_all};
 ghost use Rattle.pt_choice.specs.declared.kind.Shape.TheVariants.{Bool, Int, Bytes, Text};
-ghost use Rattle.pt_choice.specs.Kind.{IsShape, admits, simplest, AsksSmall};
+ghost use Rattle.pt_choice.specs.Kind.{IsShape, admits, simplest, fit, AsksSmall};
 
 use crate::{Choice, NoMemory, Octets};
 use std::alloc::Global;
@@ -26,7 +26,7 @@ pub enum Shape {
 }
 
 /// A shape within its limits.
-#[derive(Clone, Copy, Debug)]
+#[derive(Clone, Copy, Debug, PartialEq, Eq)]
 pub struct Kind {
     shape: Shape,
 }
@@ -141,5 +141,19 @@ pub fn simplest(alloc: Global, kind: &Kind) -> Result<Choice, NoMemory>
         Shape::Int { .. } => Ok(Choice::Int(0)),
         Shape::Bytes { min, .. } => Ok(Choice::Bytes(Octets::zeros(alloc, min)?)),
         Shape::Text { min, .. } => Ok(Choice::Text(Octets::zeros(alloc, min)?)),
+    }
+}
+
+/// The choice itself where the kind admits it, and else the simplest one: so an answer to one question serves for
+/// another. Kinds of booleans and integers take no memory.
+pub fn fit(alloc: Global, kind: &Kind, choice: &Choice) -> Result<Choice, NoMemory>
+    ensures value { IfOk result (λ fitted. fitted ≡ fit kind.now choice.now) }
+    ensures admitted { IfOk result (λ fitted. admits kind.now fitted ≡ true) }
+    ensures small { AsksSmall kind.now → IsOk result }
+{
+    if admits(kind, choice) {
+        choice.copy()
+    } else {
+        simplest(alloc, kind)
     }
 }

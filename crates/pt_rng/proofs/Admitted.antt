@@ -29,11 +29,11 @@ integer-within : (from : ChaCha) (lo hi : ℤ) → lo ≤ℤ pos 0 → pos 0 ≤
     → (int_le lo (integer_of from lo hi) && int_le (integer_of from lo hi) hi) ≡ true
 integer-within from lo hi low high = grind (arith, ints, nat_tests)
 
-pub choice_of-admitted : (from : ChaCha) (asked : Shape) → IsShape asked → admits asked (choice_of from asked) ≡ true
-choice_of-admitted from (Bool chance) is = refl
-choice_of-admitted from (Int lo hi) is = integer-within from lo hi is.0 is.1
-choice_of-admitted from (Bytes min max) is =
+pub admits-choice_of : (from : ChaCha) (asked : Shape) → IsShape asked → admits asked (choice_of from asked) ≡ true
+admits-choice_of from (Bool chance) is = refl
+admits-choice_of from (Int lo hi) is = integer-within from lo hi is.0 is.1
+admits-choice_of from (Bytes min max) is =
     grind (arith, nat_tests, length-numbers from 256 (length_of from min max))
-choice_of-admitted from (Text min max size) is =
+admits-choice_of from (Text min max size) is =
     let below = numbers-below from size (length_of from min max) (omega arith) in
     grind (arith, nat_tests, length-numbers from size (length_of from min max))

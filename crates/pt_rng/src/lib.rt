@@ -5,6 +5,8 @@
 #![tactic(auto)]
 
 mod supply;
+#[cfg(test)]
+mod tests;
 mod words;
 
 pub use supply::Supply;

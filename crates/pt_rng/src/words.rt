@@ -3,7 +3,7 @@
 //! Short runs are to meet the ends of a range and 0 often, since faults stand there: three of eight integers are one
 //! of these, and cost one word.
 
-ghost use Rattle.std.specs.Prelude.{◌≡◌, ◌+◌, ◌%◌, ◌<◌, ◌≤◌, ◌^◌, nat_lt, if◌then◌else◌, true, IfOk, OnOk, IsOk};
+ghost use Rattle.std.specs.Prelude.{◌≡◌, ◌+◌, ◌<◌, ◌≤◌, ◌^◌, true, IfOk, OnOk, IsOk};
 ghost use Rattle.pt_choice.specs.Kind.{admits, AsksSmall, IsShape};
 ghost use Rattle.pt_choice.specs.declared.kind.Shape.TheVariants.{Int};
 ghost use Rattle.pt_rng.specs.Words.{nth_word, words_after, length_of, numbers_of, integer_of, choice_of, words_read};
@@ -47,7 +47,7 @@ fn integer_from(words: &mut ChaCha8Rng, lo: i128, hi: i128) -> i128
     requires place { words.old.word_pos < 2 ^ 68 }
     requires within { IsShape (Int lo hi) }
     ensures made { result ≡ integer_of words.old lo hi }
-    ensures moved { words.new ≡ words_after words.old (if nat_lt (nth_word words.old 0 % 8) 3 then 1 else 3) }
+    ensures moved { words.new ≡ words_after words.old (words_read words.old (Int lo hi)) }
 {
     match next_word(words) % 8 {
         0 => lo,
@@ -73,8 +73,10 @@ fn octets_from(
     requires ordered { min ≤ max }
     requires some { 1 ≤ size }
     requires bytes { size ≤ 256 }
-    ensures made { IfOk result (λ octets. octets ≡ numbers_of words.old size (length_of words.old min max)) }
-    ensures moved { OnOk result (words.new ≡ words_after words.old (1 + length_of words.old min max)) }
+    ensures made { let count = length_of words.old min max in
+        IfOk result (λ octets. octets ≡ numbers_of words.old size count) }
+    ensures moved { let count = length_of words.old min max in
+        OnOk result (words.new ≡ words_after words.old (1 + count)) }
     ensures place { words.new.word_pos < 2 ^ 68 }
 {
     let count = u32::from(min) + next_word(words) % (u32::from(max - min) + 1);
