@@ -23,8 +23,8 @@ hex_onto-append zero n after = refl
 hex_onto-append (suc k) n after = ⊎_elim
     (λ small. hex_onto_last k n after small ∙ ap (λ x. x ++ after) (sym (hex_onto_last k n [] small)))
     (λ large. hex_onto_next k n after large ∙ hex_onto-append k (n / 16) (last_digit n ∷ after)
-      ∙ sym (append_assoc (hex_onto k (n / 16) []) (last_digit n ∷ []) after)
-      ∙ ap (λ x. x ++ after) (sym (hex_onto_next k n [] large ∙ hex_onto-append k (n / 16) (last_digit n ∷ []))))
+    ∙ sym (append_assoc (hex_onto k (n / 16) []) (last_digit n ∷ []) after)
+    ∙ ap (λ x. x ++ after) (sym (hex_onto_next k n [] large ∙ hex_onto-append k (n / 16) (last_digit n ∷ []))))
     (cases_lt n 16)
 
 -- room for more digits than there are changes nothing
@@ -34,7 +34,7 @@ hex_onto_enough (suc j) zero n after p q = hex_onto_last (suc j) n after (omega 
 hex_onto_enough (suc j) (suc k) n after p q = ⊎_elim
     (λ small. hex_onto_last (suc j) n after small ∙ sym (hex_onto_last (suc k) n after small))
     (λ large. hex_onto_next (suc j) n after large ∙ hex_onto_enough j k (n / 16) (last_digit n ∷ after) (omega arith) (omega arith)
-      ∙ sym (hex_onto_next (suc k) n after large))
+    ∙ sym (hex_onto_next (suc k) n after large))
     (cases_lt n 16)
 
 pub digits_step : (n : ℕ) → 16 ≤ n → n < 2 ^ 32 → digits 16 false n ≡ digits 16 false (n / 16) ++ last_digit n ∷ []

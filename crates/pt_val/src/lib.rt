@@ -6,6 +6,8 @@ mod equality;
 mod name;
 mod place;
 mod printing;
+#[cfg(test)]
+mod samples;
 mod sizing;
 mod ty;
 mod typing;

@@ -130,7 +130,11 @@ fn hex_digit(value: u32) -> u8
     requires { value < 16 }
     ensures { result ≡ digit_glyph false value }
 {
-    if value < 10 { b'0' + value as u8 } else { b'a' + (value - 10) as u8 }
+    if value < 10 {
+        b'0' + value as u8
+    } else {
+        b'a' + (value - 10) as u8
+    }
 }
 
 fn write(text: &mut Octets, bytes: &[u8]) -> Result<(), NoMemory>
@@ -141,3 +145,6 @@ fn write(text: &mut Octets, bytes: &[u8]) -> Result<(), NoMemory>
     }
     Ok(())
 }
+
+#[cfg(test)]
+mod tests;

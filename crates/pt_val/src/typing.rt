@@ -50,3 +50,58 @@ fn have_types(values: &[Val], types: &[Ty]) -> bool
     }
     true
 }
+
+#[cfg(test)]
+mod tests {
+    use super::*;
+    use crate::samples::{bytes, list, nested, nested_type, node, text, tuple, tys};
+    use std::test::Fail;
+
+    #[test]
+    fn a_value_is_of_its_type_and_no_other(rt: HostRuntime) -> Result<(), Fail> {
+        let alloc = rt.alloc();
+        let integers = nested_type(alloc, 1)?;
+        assert!(rt; has_type(&Val::Int(1), &Ty::Int));
+        assert!(rt; has_type(&Val::Bool(true), &Ty::Bool));
+        assert!(rt; has_type(&text(alloc, &[])?, &Ty::Text));
+        assert!(rt; has_type(&bytes(alloc, &[])?, &Ty::Bytes));
+        assert!(rt; has_type(&list(alloc, vec![in alloc]?)?, &integers));
+        assert!(rt; has_type(&nested(alloc, 64)?, &nested_type(alloc, 64)?));
+        assert!(rt; !has_type(&text(alloc, &[])?, &Ty::Bytes));
+        assert!(rt;
+            !has_type(
+                &list(alloc, vec![in alloc; Val::Int(1), Val::Bool(true)]?)?,
+                &integers
+            )
+        );
+        assert!(rt; !has_type(&Val::Int(1), &integers));
+        Ok(())
+    }
+
+    #[test]
+    fn tuples_and_trees_have_types(rt: HostRuntime) -> Result<(), Fail> {
+        let alloc = rt.alloc();
+        let pair = Ty::Tuple(tys(alloc, vec![in alloc; Ty::Int, Ty::Bool]?)?);
+        assert!(rt;
+            has_type(
+                &tuple(alloc, vec![in alloc; Val::Int(1), Val::Bool(true)]?)?,
+                &pair
+            )
+        );
+        assert!(rt;
+            !has_type(
+                &tuple(alloc, vec![in alloc; Val::Bool(true), Val::Int(1)]?)?,
+                &pair
+            )
+        );
+        assert!(rt; !has_type(&tuple(alloc, vec![in alloc; Val::Int(1)]?)?, &pair));
+        assert!(rt;
+            has_type(
+                &node(alloc, 1, vec![in alloc; node(alloc, 2, vec![in alloc]?)?]?)?,
+                &Ty::Tree
+            )
+        );
+        assert!(rt; !has_type(&node(alloc, 1, vec![in alloc; Val::Int(2)]?)?, &Ty::Tree));
+        Ok(())
+    }
+}
