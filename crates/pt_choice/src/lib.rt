@@ -9,21 +9,15 @@ mod choices;
 mod kind;
 mod memory;
 mod octets;
-<<<<<<< HEAD
-mod seq;
-=======
 mod order;
+mod seq;
 #[cfg(test)]
 mod tests;
->>>>>>> 6ea558186b49beb6567b900f8588433c1e9ce368
 
 pub use choice::Choice;
 pub use choices::Choices;
 pub use kind::{Kind, Shape, admits, fit, simplest};
 pub use memory::NoMemory;
 pub use octets::Octets;
-<<<<<<< HEAD
-pub use seq::Seq;
-=======
 pub use order::{cmp_choice, orders_are_total, shortlex};
->>>>>>> 6ea558186b49beb6567b900f8588433c1e9ce368
+pub use seq::Seq;

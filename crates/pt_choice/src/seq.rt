@@ -33,6 +33,11 @@ impl<T> Seq<T> {
         }
     }
 
+    /// The allocator that the list grows by, for a copy of its items.
+    pub fn allocator(&self) -> Global {
+        *self.items.allocator()
+    }
+
     pub fn len(&self) -> usize
         ensures { result ≡ length self.now }
     {
@@ -94,6 +99,7 @@ mod tests {
         shared(&all);
         assert_eq!(rt; all.len(), 2);
         assert_eq!(rt; all.as_slice().len(), 2);
+        assert_eq!(rt; Seq::<Tree>::empty(all.allocator()).len(), 0);
         let tree = Tree::Fork(all);
         assert_eq!(rt; leaves(&tree), 3);
         Ok(())

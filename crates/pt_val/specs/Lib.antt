@@ -1,1 +1,4 @@
 pub mod Name
+pub mod Size
+pub mod Text
+pub mod Typing

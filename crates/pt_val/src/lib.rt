@@ -2,13 +2,23 @@
 #![tactic(auto)]
 
 mod chars;
+mod equality;
 mod name;
 mod place;
+mod printing;
+#[cfg(test)]
+mod samples;
+mod sizing;
 mod ty;
+mod typing;
 mod val;
 
 pub use chars::Chars;
+pub use equality::same;
 pub use name::{Name, NameStop};
 pub use place::Place;
+pub use printing::show;
+pub use sizing::size;
 pub use ty::{Ty, Tys};
+pub use typing::has_type;
 pub use val::{Val, Vals};
