@@ -1,4 +1,4 @@
-use Rattle.std.proofs.Common.{◌≡◌, ◌≢◌, [], sym, subst}
+use Rattle.std.proofs.Common.{◌≢◌, [], sym, subst}
 use Rattle.std.specs.Str.{IsUtf8}
 use Rattle.pt_run.proofs.Suites.{IsSetting-digits, IsUtf8-decimal}
 use Rattle.pt_run.proofs.suite.set_runs.Goals as goal

@@ -1,0 +1,32 @@
+ghost use Rattle.std.specs.Prelude.{None};
+
+use pt_io::{IoFailed, Sink};
+use std::io::{self, Write};
+
+/// The standard output. It tells nothing of what it was given; each error counts as a fault, and so does a write that
+/// takes nothing of a nonempty piece.
+#[derive(Drop)]
+pub struct StdSink<'a, R: Print> {
+    rt: &'a R,
+    faults: u64,
+}
+
+impl<'a, R: Print> StdSink<'a, R> {
+    pub fn of(rt: &'a R) -> StdSink<'a, R> {
+        StdSink { rt, faults: 0 }
+    }
+}
+
+impl<R: Print> Sink for StdSink<'_, R> {
+    ghost shows = { λ sink. record { faults = sink.faults; bytes = None } };
+
+    fn write(&mut self, from: &[u8]) -> Result<usize, IoFailed> {
+        match io::writer(self.rt).write(from) {
+            Ok(n) if n > 0 || from.is_empty() => Ok(n),
+            _ => {
+                self.faults = self.faults.saturating_add(1);
+                Err(IoFailed)
+            }
+        }
+    }
+}
