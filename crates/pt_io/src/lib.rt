@@ -9,6 +9,8 @@ mod memory_files;
 mod memory_sink;
 mod reading;
 mod sink;
+#[cfg(test)]
+mod tests;
 
 pub use files::{Files, IoFailed};
 pub use memory_files::{Calls, MemoryFiles, NamedFiles};

@@ -6,6 +6,8 @@ mod handed;
 mod never;
 mod real_files;
 mod std_sink;
+#[cfg(test)]
+mod tests;
 
 use always::Always;
 use handed::Handed;

@@ -110,10 +110,12 @@ fn report<K: Sink>(alloc: Global, sink: &mut K, finding: Finding) -> Result<Fini
     let mut findings = Findings::empty(alloc);
     findings.push(finding)?;
     let tail = tail(alloc, findings.as_slice())?;
-    let status = match write_both(sink, block.as_slice(), tail.as_slice()) {
-        Ok(()) => status,
-        Err(_) => FAILED_WRITE,
-    };
+    if write_both(sink, block.as_slice(), tail.as_slice()).is_err() {
+        return Ok(Finish {
+            status: FAILED_WRITE,
+            findings,
+        });
+    }
     Ok(Finish { status, findings })
 }
 
