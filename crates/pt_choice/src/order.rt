@@ -1,6 +1,6 @@
 //! The order by which examples are reduced: fewer choices first, and then lower ones.
 //!
-//! An order by length first makes each reduction end soon, and a shorter list is mostly the plainer example.
+//! A shorter list is mostly the plainer example, whatever its choices are, so the length counts before all else.
 
 ghost use Rattle.std.specs.Prelude.{◌≡◌, length};
 ghost use Rattle.std.specs.Ordering.{nat_cmp, ordering_then};
