@@ -1,5 +1,5 @@
 -- A tuple has as many members as its type has types.
-use Rattle.std.proofs.Common.{◌≡◌, ◌≢◌, Bool, true, false, ◌&&◌, List, [], ◌∷◌, length, map, refl, arith}
+use Rattle.std.proofs.Common.{◌≡◌, ◌≢◌, true, false, ◌&&◌, List, [], ◌∷◌, length, map, refl, arith}
 use Rattle.pt_val.specs.Typing.{has_type, are_of}
 use Rattle.pt_val.specs.declared.val.Val.{Val}
 use Rattle.pt_val.specs.declared.ty.Ty.{Ty}
