@@ -1,0 +1,55 @@
+-- Where reading fails, from the parts of an input to the whole.
+use Rattle.std.proofs.Common.{◌≡◌, ℕ, zero, suc, ◌+◌, ◌<◌, ◌≤◌, List, [], ◌∷◌, ◌++◌, length, take, refl, sym, ap, subst, ◌∙◌, arith, add-one}
+use Rattle.pt_wire.specs.Spelling.{Begins, FailsAt, Splits, StartsWith}
+
+-- at the end of no bytes
+pub fails_at_end : {A : Type 0} (Spells : A → List ℕ → Type 0) → Begins Spells [] → ((value : A) → Spells value [] → ⊥) → FailsAt Spells [] 0
+fails_at_end Spells begun none = record { none = none; within = omega arith; begun = begun; broken = λ lt. absurd (omega arith) }
+
+-- at the first byte
+pub fails_here : {A : Type 0} (Spells : A → List ℕ → Type 0) (byte : ℕ) (bytes : List ℕ) → Begins Spells []
+    → ((value : A) (rest : List ℕ) → Spells value (byte ∷ rest) → ⊥) → FailsAt Spells (byte ∷ bytes) 0
+fails_here Spells byte bytes begun broken = record {
+  none = λ value spelled. broken value bytes spelled;
+  within = omega arith;
+  begun = begun;
+  broken = λ lt more. broken more.0 more.1 more.2;
+}
+
+-- behind a first byte
+pub fails_behind : {A B : Type 0} (Inner : A → List ℕ → Type 0) (Outer : B → List ℕ → Type 0) (byte : ℕ) (bytes : List ℕ) (place : ℕ) (out : A → B)
+    → ((value : A) (rest : List ℕ) → Inner value rest → Outer (out value) (byte ∷ rest))
+    → ((value : B) (rest : List ℕ) → Outer value (byte ∷ rest) → (inner : A) × Inner inner rest)
+    → FailsAt Inner bytes place → FailsAt Outer (byte ∷ bytes) (place + 1)
+fails_behind Inner Outer byte bytes place out to from fails = record {
+  none = λ value spelled. let inside = from value bytes spelled in fails.none inside.0 inside.1;
+  within = let inside = fails.within in omega arith;
+  begun = rw add-one (out fails.begun.0, fails.begun.1, to fails.begun.0 (take place bytes ++ fails.begun.1) fails.begun.2);
+  broken = λ lt more.
+    let more' = rw (add-one (place + 1)) at more in
+    let inside = from more'.0 (take (place + 1) bytes ++ more'.1) more'.2 in
+    fails.broken (omega arith) (inside.0, more'.1, inside.1);
+}
+
+-- a spelling at the front goes on behind a first byte
+pub starts_behind : {A B : Type 0} (Inner : A → List ℕ → Type 0) (Outer : B → List ℕ → Type 0) (byte : ℕ) (out : A → B)
+    → ((value : A) (rest : List ℕ) → Inner value rest → Outer (out value) (byte ∷ rest))
+    → (value : A) (rest : List ℕ) → StartsWith Inner value rest → StartsWith Outer (out value) (byte ∷ rest)
+starts_behind Inner Outer byte out to value rest (after, (front, spelled, parts)) =
+    (after, (byte ∷ front, to value front spelled, ap (λ (bytes : List ℕ). byte ∷ bytes) parts))
+
+-- a spelling that begins with a byte goes on behind it
+pub starts_with_byte : {A B : Type 0} (Inner : A → List ℕ → Type 0) (Outer : B → List ℕ → Type 0) (byte : ℕ)
+    → ((value : B) → Outer value [] → ⊥)
+    → ((value : B) (rest : List ℕ) → Outer value (byte ∷ rest) → (inner : A) × Inner inner rest)
+    → (value : B) (rest : List ℕ) → StartsWith Outer value (byte ∷ rest) → (inner : A) × StartsWith Inner inner rest
+starts_with_byte Inner Outer byte empty from value rest (after, ([], spelled, parts)) = absurd (empty value spelled)
+starts_with_byte Inner Outer byte empty from value rest (after, (first ∷ front, spelled, parts)) =
+    let same : first ≡ byte = cc in
+    let others : rest ≡ front ++ after = cc in
+    let inside = from value front (subst (λ b. Outer value (b ∷ front)) same spelled) in
+    (inside.0, (after, (front, inside.1, others)))
+
+-- what is spelled begins
+pub begins_spelled : {A : Type 0} (Spells : A → List ℕ → Type 0) (value : A) (bytes : List ℕ) → Spells value bytes → Begins (StartsWith Spells) []
+begins_spelled Spells value bytes spelled = (value, bytes ++ [], ([], (bytes, spelled, refl)))

@@ -1,0 +1,4 @@
+pub mod Spelling
+pub mod Leb128
+pub mod Stored
+pub mod Answer

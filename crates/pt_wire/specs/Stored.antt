@@ -1,0 +1,28 @@
+-- Lists of choices as bytes.
+use Rattle.std.specs.Prelude.{◌≡◌, ℕ, ◌+◌, ◌*◌, ◌^◌, ◌<◌, ◌≤◌, Bool, true, false, ℤ, pos, negsuc, unsigned_abs, List, [], ◌∷◌, ◌++◌, length}
+use Rattle.std.specs.List.{AllByRecursion}
+use Rattle.pt_choice.specs.declared.choice.Choice.{Choice}
+use Rattle.pt_choice.specs.declared.choice.Choice.TheVariants as choice
+use Rattle.pt_wire.specs.Leb128.{IsLeb128}
+
+-- the integers from 0 on are the even numbers, and those below 0 the odd ones
+abbrev pub zigzag : ℤ → ℕ
+zigzag (pos n) = 2 * n
+zigzag (negsuc n) = 2 * n + 1
+
+-- at most 64 bytes
+abbrev pub IsShort : List ℕ → Type 0
+IsShort bytes = (length bytes ≤ 64) × AllByRecursion (λ byte. byte < 256) bytes
+
+-- one choice: a byte for its sort, and then what it holds
+abbrev pub StoredChoice : Choice → List ℕ → Type 0
+StoredChoice (choice.Bool false) bytes = bytes ≡ 0 ∷ []
+StoredChoice (choice.Bool true) bytes = bytes ≡ 1 ∷ []
+StoredChoice (choice.Int value) bytes = (groups : List ℕ) × (bytes ≡ 2 ∷ groups) × IsLeb128 (zigzag value) groups × (unsigned_abs value < 2 ^ 64)
+StoredChoice (choice.Bytes items) bytes = (bytes ≡ 3 ∷ length items ∷ items) × IsShort items
+StoredChoice (choice.Text places) bytes = (bytes ≡ 4 ∷ length places ∷ places) × IsShort places
+
+-- a list: its choices one after the other
+abbrev pub Stored : List Choice → List ℕ → Type 0
+Stored [] bytes = bytes ≡ []
+Stored (first ∷ others) bytes = (front rest : List ℕ) × StoredChoice first front × Stored others rest × (bytes ≡ front ++ rest)

@@ -1,0 +1,11 @@
+//! Lists of choices as texts to print and as bytes to store, and back.
+//!
+//! Both spellings come from strangers too, so each reader answers for every input: the list that it
+//! spells, or the first place from which it can spell none.
+#![tactic(auto)]
+
+mod fault;
+mod gathered;
+mod groups;
+
+pub use fault::WireFault;
