@@ -71,3 +71,17 @@ groups_behind least most low place others small last room =
     fails_behind (StartsWith Inner) (StartsWith Outer) (128 + low) others place (λ high. low + 128 * high)
       (starts_behind Inner Outer (128 + low) (λ high. low + 128 * high) (λ high rest h. group_within least most low high rest small last h room))
       (starts_with_byte Inner Outer (128 + low) (groups_empty least most) (λ number rest h. let b = group_behind least most low number rest h in (b.0, b.1)))
+
+-- no spelling of a number begins another
+pub one_number : (m n : ℕ) (f g x y : List ℕ) → IsLeb128 m f → IsLeb128 n g → f ++ x ≡ g ++ y → (m ≡ n) × (f ≡ g)
+one_number m n [] g x y h k e = absurd h
+one_number m n (b ∷ f) [] x y h k e = absurd k
+one_number m n (b ∷ []) (c ∷ []) x y (below, is) (below', is') e = let same : b ≡ c = cc in (is ∙ same ∙ sym is', ap (λ d. d ∷ []) same)
+one_number m n (b ∷ []) (c ∷ d ∷ g) x y (below, is) (low, high, small, positive, byte, whole, more) e = let same : b ≡ c = cc in absurd (omega arith)
+one_number m n (b ∷ b' ∷ f) (c ∷ []) x y (low, high, small, positive, byte, whole, more) (below, is) e = let same : b ≡ c = cc in absurd (omega arith)
+one_number m n (b ∷ b' ∷ f) (c ∷ c' ∷ g) x y (low, high, small, positive, byte, whole, more) (low', high', small', positive', byte', whole', more') e =
+    let same : b ≡ c = cc in
+    let behind : (b' ∷ f) ++ x ≡ (c' ∷ g) ++ y = cc in
+    let rest = one_number high high' (b' ∷ f) (c' ∷ g) x y more more' behind in
+    let highs = rest.0 in
+    (omega arith, let others = rest.1 in cc)

@@ -1,2 +1,5 @@
 pub mod Failing
 pub mod Leb128Groups
+pub mod Bytes
+pub mod StoredChoices
+pub mod StoredLists

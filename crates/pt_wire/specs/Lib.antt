@@ -1,4 +1,5 @@
 pub mod Spelling
 pub mod Leb128
+pub mod Limits
 pub mod Stored
 pub mod Answer

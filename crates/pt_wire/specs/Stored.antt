@@ -14,13 +14,17 @@ zigzag (negsuc n) = 2 * n + 1
 abbrev pub IsShort : List ℕ → Type 0
 IsShort bytes = (length bytes ≤ 64) × AllByRecursion (λ byte. byte < 256) bytes
 
+-- how many bytes there are, and the bytes
+abbrev pub IsCounted : List ℕ → List ℕ → Type 0
+IsCounted items bytes = (bytes ≡ length items ∷ items) × IsShort items
+
 -- one choice: a byte for its sort, and then what it holds
 abbrev pub StoredChoice : Choice → List ℕ → Type 0
 StoredChoice (choice.Bool false) bytes = bytes ≡ 0 ∷ []
 StoredChoice (choice.Bool true) bytes = bytes ≡ 1 ∷ []
-StoredChoice (choice.Int value) bytes = (groups : List ℕ) × (bytes ≡ 2 ∷ groups) × IsLeb128 (zigzag value) groups × (unsigned_abs value < 2 ^ 64)
-StoredChoice (choice.Bytes items) bytes = (bytes ≡ 3 ∷ length items ∷ items) × IsShort items
-StoredChoice (choice.Text places) bytes = (bytes ≡ 4 ∷ length places ∷ places) × IsShort places
+StoredChoice (choice.Int value) bytes = (held : List ℕ) × (bytes ≡ 2 ∷ held) × IsLeb128 (zigzag value) held × (unsigned_abs value < 2 ^ 64)
+StoredChoice (choice.Bytes items) bytes = (held : List ℕ) × (bytes ≡ 3 ∷ held) × IsCounted items held
+StoredChoice (choice.Text places) bytes = (held : List ℕ) × (bytes ≡ 4 ∷ held) × IsCounted places held
 
 -- a list: its choices one after the other
 abbrev pub Stored : List Choice → List ℕ → Type 0

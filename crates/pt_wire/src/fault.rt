@@ -1,5 +1,6 @@
 ghost use Rattle.std.specs.Prelude.{◌≡◌};
-ghost use Rattle.pt_wire.specs.declared.fault.Stop.TheVariants.{NoMemory as Memory};
+ghost use Rattle.pt_wire.specs.declared.fault.WireFault.TheVariants as fault;
+ghost use Rattle.pt_wire.specs.declared.fault.Stop.TheVariants as stop;
 
 use pt_choice::NoMemory;
 use thiserror::Error;
@@ -18,6 +19,14 @@ pub enum WireFault {
     NoMemory,
 }
 
+impl From<NoMemory> for WireFault {
+    ghost from_gives = { λ _ made. made ≡ fault.NoMemory };
+
+    fn from(_: NoMemory) -> WireFault {
+        WireFault::NoMemory
+    }
+}
+
 /// Why a part of the input could not be read, and how far into that part.
 #[derive(Clone, Copy, Debug, PartialEq, Eq)]
 pub(crate) enum Stop {
@@ -26,7 +35,7 @@ pub(crate) enum Stop {
 }
 
 impl From<NoMemory> for Stop {
-    ghost from_gives = { λ _ stop. stop ≡ Memory };
+    ghost from_gives = { λ _ made. made ≡ stop.NoMemory };
 
     fn from(_: NoMemory) -> Stop {
         Stop::NoMemory

@@ -4,8 +4,12 @@
 //! spells, or the first place from which it can spell none.
 #![tactic(auto)]
 
+mod decoding;
+mod encoding;
 mod fault;
 mod gathered;
 mod groups;
 
+pub use decoding::decode;
+pub use encoding::encode;
 pub use fault::WireFault;
