@@ -1,5 +1,6 @@
 -- Where reading fails, from the parts of an input to the whole.
-use Rattle.std.proofs.Common.{◌≡◌, ℕ, zero, suc, ◌+◌, ◌<◌, ◌≤◌, List, [], ◌∷◌, ◌++◌, length, take, refl, sym, ap, subst, ◌∙◌, arith, add-one}
+use Rattle.std.proofs.Common.{◌≡◌, ℕ, zero, suc, ◌+◌, ◌<◌, ◌≤◌, List, [], ◌∷◌, ◌++◌, length, take, refl, sym, ap, subst, ◌∙◌, append_assoc, arith, add-one, length-append}
+use Rattle.std.proofs.Math.Seq.{take-append-add}
 use Rattle.pt_wire.specs.Spelling.{Begins, FailsAt, Splits, StartsWith}
 
 -- at the end of no bytes
@@ -53,3 +54,19 @@ starts_with_byte Inner Outer byte empty from value rest (after, (first ∷ front
 -- what is spelled begins
 pub begins_spelled : {A : Type 0} (Spells : A → List ℕ → Type 0) (value : A) (bytes : List ℕ) → Spells value bytes → Begins (StartsWith Spells) []
 begins_spelled Spells value bytes spelled = (value, bytes ++ [], ([], (bytes, spelled, refl)))
+
+-- behind bytes that were read
+pub fails_front : {A : Type 0} (Spells : A → List ℕ → Type 0) (front rest : List ℕ) (place : ℕ)
+    → FailsAt (λ value bytes. Spells value (front ++ bytes)) rest place → FailsAt Spells (front ++ rest) (length front + place)
+fails_front Spells front rest place fails = record {
+  none = fails.none;
+  within = let inside = fails.within in omega (arith, length-append front rest);
+  begun = let begun = fails.begun in
+    rw (take-append-add front rest place) (begun.0, begun.1, subst (Spells begun.0) (sym (append_assoc front (take place rest) begun.1)) begun.2);
+  broken = λ lt more.
+    let cut : take (length front + place + 1) (front ++ rest) ≡ front ++ take (place + 1) rest =
+      ap (λ n. take n (front ++ rest)) (omega arith) ∙ take-append-add front rest (place + 1) in
+    let spelled : Spells more.0 (front ++ (take (place + 1) rest ++ more.1)) =
+      subst (Spells more.0) (ap (λ t. t ++ more.1) cut ∙ append_assoc front (take (place + 1) rest) more.1) more.2 in
+    fails.broken (omega (arith, length-append front rest)) (more.0, more.1, spelled);
+}

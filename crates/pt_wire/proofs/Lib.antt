@@ -2,5 +2,8 @@ pub mod Failing
 pub mod Leb128Groups
 pub mod Bytes
 pub mod StoredChoices
-pub mod StoredLists
+pub mod Chains
 pub mod Answers
+pub mod Decimals
+pub mod JoinedTexts
+pub mod PrintedPlaces

@@ -10,6 +10,7 @@ use Rattle.pt_wire.specs.Leb128.{IsLeb128, IsLeb128Within}
 use Rattle.pt_wire.proofs.Leb128Groups.{one_number}
 use Rattle.pt_wire.specs.Stored.{zigzag, IsShort, IsCounted, StoredChoice}
 use Rattle.pt_wire.proofs.Bytes.{are_bytes, bytes_then_zeros, bytes-take}
+use Rattle.pt_wire.proofs.Chains.{IsPrefixFree}
 use Rattle.pt_wire.proofs.Failing.{fails_at_end, fails_here, fails_behind, starts_behind, starts_with_byte, begins_spelled}
 
 -- no choice is spelled by no bytes
@@ -200,3 +201,6 @@ one_choice (choice.Bool true) d f g x y h k e = absurd cc
 one_choice c (choice.Bool false) f g x y h k e = absurd cc
 one_choice c (choice.Bool true) f g x y h k e = absurd cc
 one_choice c d f g x y h k e = absurd cc
+
+pub choices_free : IsPrefixFree StoredChoice
+choices_free = record { empty = choice_empty; one = one_choice }

@@ -2,4 +2,6 @@ pub mod Spelling
 pub mod Leb128
 pub mod Limits
 pub mod Stored
+pub mod Number
+pub mod Printed
 pub mod Answer

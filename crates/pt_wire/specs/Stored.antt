@@ -4,6 +4,7 @@ use Rattle.std.specs.List.{AllByRecursion}
 use Rattle.pt_choice.specs.declared.choice.Choice.{Choice}
 use Rattle.pt_choice.specs.declared.choice.Choice.TheVariants as choice
 use Rattle.pt_wire.specs.Leb128.{IsLeb128}
+use Rattle.pt_wire.specs.Spelling.{Chained}
 
 -- the integers from 0 on are the even numbers, and those below 0 the odd ones
 abbrev pub zigzag : ℤ → ℕ
@@ -28,5 +29,4 @@ StoredChoice (choice.Text places) bytes = (held : List ℕ) × (bytes ≡ 4 ∷ 
 
 -- a list: its choices one after the other
 abbrev pub Stored : List Choice → List ℕ → Type 0
-Stored [] bytes = bytes ≡ []
-Stored (first ∷ others) bytes = (front rest : List ℕ) × StoredChoice first front × Stored others rest × (bytes ≡ front ++ rest)
+Stored = Chained StoredChoice

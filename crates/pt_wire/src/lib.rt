@@ -9,7 +9,10 @@ mod encoding;
 mod fault;
 mod gathered;
 mod groups;
+mod number;
+mod printing;
 
 pub use decoding::decode;
 pub use encoding::encode;
 pub use fault::WireFault;
+pub use printing::print_choices;

@@ -5,7 +5,8 @@ use Rattle.pt_wire.specs.Answer.{StopsAt}
 use Rattle.pt_wire.specs.Spelling.{FailsAt, StartsWith}
 use Rattle.pt_wire.specs.Stored.{Stored, StoredChoice}
 use Rattle.pt_wire.proofs.Answers.{answer_for, reads_gathered}
-use Rattle.pt_wire.proofs.StoredLists.{stored_more, fails_within, one_list}
+use Rattle.pt_wire.proofs.Chains.{chained_more, fails_within, fails_anyway, one_chain}
+use Rattle.pt_wire.proofs.StoredChoices.{choices_free}
 use Rattle.pt_wire.proofs.decoding.decode.Goals as goal
 use Rattle.pt_wire.proofs.decoding.decode.Goals.{In-Err-At}
 
@@ -13,7 +14,7 @@ pub loop-rest-preserved : goal.loop-rest-preserved
 loop-rest-preserved c =
     let i = c.loop-rest.invariant in
     let found = c.in-Ok.ensures.ok in
-    (i.0 ++ c.in-Ok.choice ∷ [], i.1 ++ found.0, stored_more i.0 c.in-Ok.choice i.1 found.0 i.2 found.1, c.in_ok-gather-in-Ok.ensures i.0 i.3,
+    (i.0 ++ c.in-Ok.choice ∷ [], i.1 ++ found.0, chained_more StoredChoice i.0 c.in-Ok.choice i.1 found.0 i.2 found.1, c.in_ok-gather-in-Ok.ensures i.0 i.3,
       i.4 ∙ ap (λ t. i.1 ++ t) found.2 ∙ sym (append_assoc i.1 found.0 c.in-Ok.after.now))
 
 fails : (c : In-Err-At) → FailsAt Stored c.args.bytes.now (length c.args.bytes.now - length c.loop-rest.rest.now + c.in-Err-At.place)
@@ -21,7 +22,7 @@ fails c =
     let i = c.loop-rest.invariant in
     let some : length c.loop-rest.rest.now ≢ 0 = eqb-false _ _ (sym c.is_empty.ensures ∙ c.loop-rest-test.true) in
     let inside = rw c.in-Err-At.field-0-is at c.in-Err-At.ensures.err in
-    fails_within i.0 i.1 c.loop-rest.rest.now c.args.bytes.now c.in-Err-At.place i.2 i.4 (omega arith) inside
+    fails_anyway Stored _ _ (fails_within (λ _. Unit {0}) StoredChoice choices_free i.0 i.1 c.loop-rest.rest.now c.args.bytes.now c.in-Err-At.place (λ _. tt) i.2 i.4 (omega arith) inside)
 
 pub returns-in-Err-At-clause-reads : goal.returns-in-Err-At-clause-reads
 returns-in-Err-At-clause-reads c = rw c.in-Err-At.field-0-is (fails (goal.at.returns-in-Err-At-clause-reads c).In-Err-At)
@@ -34,5 +35,5 @@ returns-clause-only c =
     let i = c.loop-rest.invariant in
     let ended : c.loop-rest.rest.now ≡ [] = nil_from_length c.loop-rest.rest.now (eqb-true _ _ (sym c.is_empty.ensures ∙ c.loop-rest-test.false)) in
     let whole : c.args.bytes.now ≡ i.1 = i.4 ∙ ap (λ t. i.1 ++ t) ended ∙ append-nil i.1 in
-    answer_for Stored c.args.bytes.now c.all_gathered.result (λ a b. one_list a b c.args.bytes.now)
+    answer_for Stored c.args.bytes.now c.all_gathered.result (λ a b. one_chain StoredChoice choices_free a b c.args.bytes.now)
       (reads_gathered Stored c.args.bytes.now i.0 c.all_gathered.result (rw whole i.2) (c.all_gathered.ensures i.0 i.3))

@@ -1,0 +1,44 @@
+-- Lists of choices as text.
+use Rattle.std.specs.Prelude.{◌≡◌, ℕ, ◌/◌, ◌%◌, ◌^◌, ◌<◌, ◌≤◌, Bool, true, false, ℤ, unsigned_abs, List, [], ◌∷◌, ◌++◌, length, codes}
+use Rattle.std.specs.Fmt.{decimal, digit_glyph, signed_decimal}
+use Rattle.pt_choice.specs.declared.choice.Choice.{Choice}
+use Rattle.pt_choice.specs.declared.choice.Choice.TheVariants as choice
+use Rattle.pt_wire.specs.Spelling.{Among, Chained, Joined}
+
+-- a letter for the value
+abbrev pub PrintedBool : Bool → List ℕ → Type 0
+PrintedBool false text = text ≡ codes "f"
+PrintedBool true text = text ≡ codes "t"
+
+-- decimal digits, behind a `-` where the number is below 0
+abbrev pub PrintedInteger : ℤ → List ℕ → Type 0
+PrintedInteger value text = (text ≡ signed_decimal value) × (unsigned_abs value < 2 ^ 64)
+
+-- two lower-case hexadecimal digits
+abbrev pub PrintedByte : ℕ → List ℕ → Type 0
+PrintedByte byte text = (text ≡ digit_glyph false (byte / 16) ∷ digit_glyph false (byte % 16) ∷ []) × (byte < 256)
+
+-- decimal digits
+abbrev pub PrintedNumber : ℕ → ℕ → List ℕ → Type 0
+PrintedNumber most number text = (text ≡ decimal number) × (number ≤ most)
+
+-- numbers below 256 with a `.` between them, or nothing
+abbrev pub PrintedPlaces : List ℕ → List ℕ → Type 0
+PrintedPlaces [] text = text ≡ []
+PrintedPlaces (first ∷ others) text = Joined (PrintedNumber 255) 46 (first ∷ others) text
+
+-- no more values than a choice may hold
+abbrev pub IsFew : List ℕ → Type 0
+IsFew values = length values ≤ 64
+
+-- one choice: a letter for its sort, and then what it holds
+abbrev pub PrintedChoice : Choice → List ℕ → Type 0
+PrintedChoice (choice.Bool value) text = (held : List ℕ) × (text ≡ codes "b" ++ held) × PrintedBool value held
+PrintedChoice (choice.Int value) text = (held : List ℕ) × (text ≡ codes "i" ++ held) × PrintedInteger value held
+PrintedChoice (choice.Bytes bytes) text = (held : List ℕ) × (text ≡ codes "x" ++ held) × Among IsFew (Chained PrintedByte) bytes held
+PrintedChoice (choice.Text places) text = (held : List ℕ) × (text ≡ codes "t" ++ held) × Among IsFew PrintedPlaces places held
+
+-- a list: `-` where it is empty, and else its choices with one space between each two
+abbrev pub Printed : List Choice → List ℕ → Type 0
+Printed [] text = text ≡ codes "-"
+Printed (first ∷ others) text = Joined PrintedChoice 32 (first ∷ others) text
