@@ -1,15 +1,18 @@
 -- Decimal digits, read from the left.
-use Rattle.std.proofs.Common.{◌≡◌, ℕ, zero, suc, ◌+◌, ◌*◌, ◌-◌, ◌/◌, ◌%◌, ◌^◌, ◌<◌, ◌≤◌, List, [], ◌∷◌, ◌++◌, length, get_or, take, Option, Some, None, IfSome, unwrap_or, refl, sym, ap, subst, ◌∙◌, append_assoc, inl, inr, arith, length-append}
+use Rattle.std.proofs.Common.{◌≡◌, ℕ, zero, suc, ◌+◌, ◌*◌, ◌-◌, ◌/◌, ◌%◌, ◌^◌, ◌<◌, ◌≤◌, List, [], ◌∷◌, ◌++◌, length, get_or, take, Option, Some, None, IfSome, IfErr, ok_or, unwrap_or, refl, sym, ap, subst, ◌∙◌, append_assoc, inl, inr, arith, length-append}
 use Rattle.std.specs.Fmt.{decimal}
 use Rattle.std.specs.Char.{digit_value}
 use Rattle.std.specs.Str.Parse.{digits_value, AllDigits}
 use Rattle.std.proofs.lemmas.Bool.{cases_lt}
-use Rattle.std.proofs.lemmas.List.{get_or_at, take_at}
-use Rattle.std.proofs.lemmas.Fmt.{decimal_is_IsNumeral, decimal_digit, decimal_step, first_decimal}
+use Rattle.std.proofs.lemmas.List.{append-nil, get_or_at, take_at}
+use Rattle.std.proofs.lemmas.Fmt.{decimal_is_IsNumeral, decimal_digit, decimal_nonempty, decimal_step, first_decimal}
 use Rattle.std.proofs.lemmas.Int.Digits.{digits_value_push}
 use Rattle.std.proofs.lemmas.Str.{digit_value_digit}
 use Rattle.std.proofs.lemmas.Str.Parse.{digit_at, digits_value-take-le}
 use Rattle.pt_wire.specs.Number.{digits_of}
+use Rattle.pt_wire.specs.Printed.{PrintedNumber}
+use Rattle.pt_wire.specs.Spelling.{Begins, FailsAt}
+use Rattle.pt_wire.proofs.Failing.{fails_at_end, fails_front, fails_here}
 
 -- a byte of a decimal text is a digit
 pub digit_within : (number byte : ℕ) (front rest : List ℕ) → number < 2 ^ 64 → decimal number ≡ front ++ byte ∷ rest → (48 ≤ byte) × (byte ≤ 57)
@@ -60,3 +63,23 @@ pub digits_more : (front : Option ℕ) (digit : ℕ) → (front ≡ Some 0 → �
 digits_more None digit apart small fits = ap decimal (omega arith) ∙ decimal_digit digit small
 digits_more (Some zero) digit apart small fits = absurd (apart refl)
 digits_more (Some (suc n)) digit apart small fits = decimal_more (suc n) digit (omega arith) small fits
+
+-- a number fails at a digit that does not go on from those before it
+pub number_fails : (most : ℕ) (number : Option ℕ) (byte : ℕ) (rest : List ℕ) → IfSome number (λ value. value ≤ most)
+    → ((greater : ℕ) (more : List ℕ) → greater ≤ most → decimal greater ≡ digits_of number ++ byte ∷ more → ⊥)
+    → FailsAt (PrintedNumber most) (digits_of number ++ byte ∷ rest) (length (digits_of number))
+number_fails most number byte rest small broken =
+    let front = digits_of number in
+    subst (FailsAt (PrintedNumber most) (front ++ byte ∷ rest)) (omega arith)
+      (fails_front (PrintedNumber most) front (byte ∷ rest) 0
+        (fails_here (λ value text. PrintedNumber most value (front ++ text)) byte rest (begun number small) (λ value more h. broken value more h.1 (sym h.0)))) where
+  begun : (number : Option ℕ) → IfSome number (λ value. value ≤ most) → Begins (λ value text. PrintedNumber most value (digits_of number ++ text)) []
+  begun None small = (0, decimal 0, (refl, omega arith))
+  begun (Some value) small = (value, [], (append-nil (decimal value), small))
+
+-- a number fails where there are no digits
+pub number_ends : (most : ℕ) (number : Option ℕ) (digits : List ℕ) → most < 2 ^ 64 → digits ≡ digits_of number → IfErr (ok_or number 0) (FailsAt (PrintedNumber most) digits)
+number_ends most (Some value) digits small is = tt
+number_ends most None digits small is = rw is (fails_at_end (PrintedNumber most) (0, decimal 0, (refl, omega arith)) none) where
+  none : (value : ℕ) → PrintedNumber most value [] → ⊥
+  none value (text, bound) = let some = decimal_nonempty value (omega arith) in omega (arith, ap length text)

@@ -7,3 +7,4 @@ pub mod Answers
 pub mod Decimals
 pub mod JoinedTexts
 pub mod PrintedPlaces
+pub mod PrintedChoices
