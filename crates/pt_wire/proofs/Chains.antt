@@ -112,3 +112,33 @@ fails_anyway Spells bytes place fails = record {
   begun = (fails.begun.0, fails.begun.1, fails.begun.2.1);
   broken = λ lt more. fails.broken lt (more.0, more.1, (tt, more.2));
 }
+
+-- a chain that holds as many values as it may fails at the next byte
+pub fails_full : {A : Type 0} (May : List A → Type 0) (Spells : A → List ℕ → Type 0) → IsPrefixFree Spells → (all : List A) (done : List ℕ) (byte : ℕ) (bytes : List ℕ)
+    → May all → ((more : A) (others : List A) → May (all ++ more ∷ others) → ⊥) → Chained Spells all done
+    → FailsAt (Among May (Chained Spells)) (done ++ byte ∷ bytes) (length done)
+fails_full {A} May Spells free all done byte bytes may full chained = record {
+  none = λ list whole. none list bytes whole.0 whole.1;
+  within = omega (arith, length-append done (byte ∷ bytes));
+  begun = rw (take_at done (byte ∷ bytes) (length done) refl) (all, [], (may, subst (Chained Spells all) (sym (append-nil done)) chained));
+  broken = λ lt more.
+    let cut : take (length done + 1) (done ++ byte ∷ bytes) ≡ done ++ byte ∷ [] = take-append-add done (byte ∷ bytes) 1 in
+    none more.0 more.1 more.2.0 (subst (Chained Spells more.0) (ap (λ t. t ++ more.1) cut ∙ append_assoc done (byte ∷ []) more.1) more.2.1);
+} where
+  none : (list : List A) (rest : List ℕ) → May list → Chained Spells list (done ++ byte ∷ rest) → ⊥
+  none list rest allowed whole =
+      let behind = chained_rest Spells free all list done (byte ∷ rest) chained whole in
+      more behind.0 behind.2 (subst May behind.1 allowed) where
+    more : (others : List A) → Chained Spells others (byte ∷ rest) → May (all ++ others) → ⊥
+    more [] spelled allowed = let nothing : byte ∷ rest ≡ [] = spelled in cc
+    more (next ∷ others) spelled allowed = full next others allowed
+
+-- the same, of all the bytes
+pub fails_full_within : {A : Type 0} (May : List A → Type 0) (Spells : A → List ℕ → Type 0) → IsPrefixFree Spells → (all : List A) (done rest bytes : List ℕ)
+    → May all → ((more : A) (others : List A) → May (all ++ more ∷ others) → ⊥) → Chained Spells all done → bytes ≡ done ++ rest → 0 < length rest
+    → FailsAt (Among May (Chained Spells)) bytes (length bytes - length rest)
+fails_full_within May Spells free all done [] bytes may full chained parts some = absurd (omega arith)
+fails_full_within May Spells free all done (byte ∷ rest) bytes may full chained parts some =
+    let before : length bytes - length (byte ∷ rest) ≡ length done = omega (arith, ap length parts, length-append done (byte ∷ rest)) in
+    subst (FailsAt (Among May (Chained Spells)) bytes) (sym before)
+      (subst (λ b. FailsAt (Among May (Chained Spells)) b (length done)) (sym parts) (fails_full May Spells free all done byte rest may full chained))

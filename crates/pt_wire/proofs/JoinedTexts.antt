@@ -1,5 +1,5 @@
 -- Spellings with a mark between each two, where no spelling holds the mark.
-use Rattle.std.proofs.Common.{◌≡◌, ◌≢◌, ℕ, zero, suc, ◌+◌, ◌-◌, ◌<◌, ◌≤◌, List, [], ◌∷◌, ◌++◌, length, take, drop, refl, sym, ap, subst, ◌∙◌, append_assoc, arith, inl, inr, add-one, length-append}
+use Rattle.std.proofs.Common.{◌⊎◌, ◌≡◌, ◌≢◌, ℕ, zero, suc, ◌+◌, ◌-◌, ◌<◌, ◌≤◌, List, [], ◌∷◌, ◌++◌, length, take, drop, refl, sym, ap, subst, ◌∙◌, append_assoc, arith, inl, inr, add-one, length-append}
 use Rattle.std.specs.List.{AllByRecursion}
 use Rattle.std.proofs.Math.Seq.{take-append-add}
 use Rattle.std.proofs.lemmas.Bool.{cases_lt}
@@ -125,3 +125,75 @@ module _ {A : Type 0} (Spells : A → List ℕ → Type 0) (mark : ℕ) (markabl
       let value = markable.one c d front one (subst (Spells d) (sym same.0) one') in
       let rest = one_joined (x ∷ cs) (e ∷ ds) others more (subst (Joined Spells mark (e ∷ ds)) (sym same.1) more') in
       ap (λ y. y ∷ x ∷ cs) value ∙ ap (λ ys. d ∷ ys) rest
+
+  -- a list fails where the word behind marked values does
+  pub fails_joined : (May : List A → Type 0) (all : List A) (done word tail : List ℕ) (place : ℕ) → ((value : A) → May (all ++ value ∷ [])) → Marked Spells mark all done
+      → Lacks mark word → (tail ≡ []) ⊎ ((after : List ℕ) × (tail ≡ mark ∷ after)) → FailsAt Spells word place
+      → FailsAt (Among May (Joined Spells mark)) (done ++ (word ++ tail)) (length done + place)
+  fails_joined May all done word tail place may marked lacks ends fails = record {
+    none = λ list spelled. none list spelled.1 ends;
+    within = let inside = fails.within in omega (arith, length-append done (word ++ tail), length-append word tail);
+    begun =
+      let begun = fails.begun in
+      let front : take place (word ++ tail) ≡ take place word = take-append-le place word tail fails.within in
+      rw (take-append-add done (word ++ tail) place, front)
+        (all ++ begun.0 ∷ [], begun.1, (may begun.0, subst (Joined Spells mark (all ++ begun.0 ∷ [])) (sym (append_assoc done (take place word) begun.1)) (joined_end Spells mark all begun.0 done (take place word ++ begun.1) marked begun.2)));
+    broken = λ lt more.
+      let cut : take (length done + place + 1) (done ++ (word ++ tail)) ≡ done ++ take (place + 1) (word ++ tail) =
+        ap (λ n. take n (done ++ (word ++ tail))) (omega arith) ∙ take-append-add done (word ++ tail) (place + 1) in
+      let spelled : Joined Spells mark more.0 (done ++ (take (place + 1) (word ++ tail) ++ more.1)) =
+        subst (Joined Spells mark more.0) (ap (λ t. t ++ more.1) cut ∙ append_assoc done (take (place + 1) (word ++ tail)) more.1) more.2.1 in
+      let behind = joined_rest all more.0 done (take (place + 1) (word ++ tail) ++ more.1) marked spelled in
+      broken behind.0 more.1 behind.2 (omega (arith, length-append done (word ++ tail))) ends;
+  } where
+    none : (list : List A) → Joined Spells mark list (done ++ (word ++ tail)) → (tail ≡ []) ⊎ ((after : List ℕ) × (tail ≡ mark ∷ after)) → ⊥
+    none list spelled (inl nothing) =
+        let whole : word ++ tail ≡ word = ap (λ t. word ++ t) nothing ∙ append-nil word in
+        let behind = joined_rest all list done (word ++ tail) marked spelled in
+        let last = joined_last behind.0 word lacks (subst (Joined Spells mark behind.0) whole behind.2) in
+        fails.none last.0 last.2
+    none list spelled (inr (after, is)) =
+        let behind = joined_rest all list done (word ++ tail) marked spelled in
+        let first = joined_first behind.0 word after lacks (subst (λ t. Joined Spells mark behind.0 (word ++ t)) is behind.2) in
+        fails.none first.0 first.1
+    broken : (list : List A) (more : List ℕ) → Joined Spells mark list (take (place + 1) (word ++ tail) ++ more) → place < length (word ++ tail)
+        → (tail ≡ []) ⊎ ((after : List ℕ) × (tail ≡ mark ∷ after)) → ⊥
+    broken list more spelled lt ends = elim (cases_lt place (length word)) [
+        | inl inside ↦
+          let front : take (place + 1) (word ++ tail) ≡ take (place + 1) word = take-append-le (place + 1) word tail (omega arith) in
+          fails.broken inside (joined_begins list (take (place + 1) word) more (Lacks-take mark (place + 1) word lacks) (subst (λ t. Joined Spells mark list (t ++ more)) front spelled))
+        | inr outside ↦ past outside ends
+      ] where
+      past : length word ≤ place → (tail ≡ []) ⊎ ((after : List ℕ) × (tail ≡ mark ∷ after)) → ⊥
+      past outside (inl nothing) = omega (arith, length-append word tail, ap length nothing)
+      past outside (inr (after, is)) =
+          let within = fails.within in
+          let at_end : place ≡ length word = omega arith in
+          let cut : take (place + 1) (word ++ tail) ≡ word ++ mark ∷ [] =
+            ap (λ n. take (n + 1) (word ++ tail)) at_end ∙ ap (λ t. take (length word + 1) (word ++ t)) is ∙ take-append-add word (mark ∷ after) 1 in
+          let first = joined_first list word more lacks (subst (Joined Spells mark list) (ap (λ t. t ++ more) cut ∙ append_assoc word (mark ∷ []) more) spelled) in
+          fails.none first.0 first.1
+
+  -- a list that holds as many values as it may fails at the next mark
+  pub fails_full : (May : List A → Type 0) (all : List A) (done front after : List ℕ) (value : A) → Marked Spells mark all done → Spells value front
+      → May (all ++ value ∷ []) → ((more : A) (others : List A) → May ((all ++ value ∷ []) ++ more ∷ others) → ⊥)
+      → FailsAt (Among May (Joined Spells mark)) (done ++ (front ++ mark ∷ after)) (length done + length front)
+  fails_full May all done front after value marked spelled may full = record {
+    none = λ list whole. none list after whole.0 (subst (Joined Spells mark list) (parts after) whole.1);
+    within = omega (arith, length-append done (front ++ mark ∷ after), length-append front (mark ∷ after));
+    begun = rw (take-append-add done (front ++ mark ∷ after) (length front), take_at front (mark ∷ after) (length front) refl)
+      (all ++ value ∷ [], [], (may, subst (Joined Spells mark (all ++ value ∷ [])) (sym (append-nil (done ++ front))) (joined_end Spells mark all value done front marked spelled)));
+    broken = λ lt more.
+      let cut : take (length done + length front + 1) (done ++ (front ++ mark ∷ after)) ≡ done ++ (front ++ mark ∷ []) =
+        ap (λ n. take n (done ++ (front ++ mark ∷ after))) (omega arith) ∙ take-append-add done (front ++ mark ∷ after) (length front + 1) ∙ ap (λ t. done ++ t) (take-append-add front (mark ∷ after) 1) in
+      none more.0 more.1 more.2.0 (subst (λ t. Joined Spells mark more.0 (t ++ more.1)) cut more.2.1);
+  } where
+    parts : (rest : List ℕ) → done ++ (front ++ mark ∷ rest) ≡ (done ++ (front ++ mark ∷ [])) ++ rest
+    parts rest = simp append_assoc
+    none : (list : List A) (rest : List ℕ) → May list → Joined Spells mark list ((done ++ (front ++ mark ∷ [])) ++ rest) → ⊥
+    none list rest allowed whole =
+        let behind = joined_rest (all ++ value ∷ []) list (done ++ (front ++ mark ∷ [])) rest (marked_more Spells mark all value done front marked spelled) whole in
+        more behind.0 behind.2 (subst May behind.1 allowed) where
+      more : (others : List A) → Joined Spells mark others rest → May ((all ++ value ∷ []) ++ others) → ⊥
+      more [] spelled allowed = spelled
+      more (next ∷ others) spelled allowed = full next others allowed

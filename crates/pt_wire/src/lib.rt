@@ -11,8 +11,12 @@ mod gathered;
 mod groups;
 mod number;
 mod printing;
+mod reading;
+mod word;
+mod words;
 
 pub use decoding::decode;
 pub use encoding::encode;
 pub use fault::WireFault;
 pub use printing::print_choices;
+pub use reading::read_choices;
