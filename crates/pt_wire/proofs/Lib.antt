@@ -8,3 +8,4 @@ pub mod Decimals
 pub mod JoinedTexts
 pub mod PrintedPlaces
 pub mod PrintedChoices
+pub mod PrintedBytes
