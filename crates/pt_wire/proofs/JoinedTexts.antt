@@ -1,10 +1,11 @@
 -- Spellings with a mark between each two, where no spelling holds the mark.
-use Rattle.std.proofs.Common.{◌⊎◌, ◌≡◌, ◌≢◌, ℕ, zero, suc, ◌+◌, ◌-◌, ◌<◌, ◌≤◌, List, [], ◌∷◌, ◌++◌, length, take, drop, refl, sym, ap, subst, ◌∙◌, append_assoc, arith, inl, inr, add-one, length-append}
+use Rattle.std.proofs.Common.{Option, Some, None, MatchOption, ◌⊎◌, ◌≡◌, ◌≢◌, ℕ, zero, suc, ◌+◌, ◌-◌, ◌<◌, ◌≤◌, List, [], ◌∷◌, ◌++◌, length, take, drop, refl, sym, ap, subst, ◌∙◌, append_assoc, arith, inl, inr, add-one, length-append}
+use Rattle.std.specs.Borrow.{Bor}
 use Rattle.std.specs.List.{AllByRecursion}
 use Rattle.std.proofs.Math.Seq.{take-append-add}
 use Rattle.std.proofs.lemmas.Bool.{cases_lt}
 use Rattle.std.proofs.lemmas.List.{append-nil, append_cancel_left, take_at, take_all, take-append-le, take-append-drop}
-use Rattle.pt_wire.specs.Spelling.{Among, Begins, FailsAt, Joined}
+use Rattle.pt_wire.specs.Spelling.{Among, Begins, FailsAt, IsCut, Joined}
 
 -- the mark stands nowhere in the bytes
 abbrev pub Lacks : ℕ → List ℕ → Type 0
@@ -197,3 +198,34 @@ module _ {A : Type 0} (Spells : A → List ℕ → Type 0) (mark : ℕ) (markabl
       more : (others : List A) → Joined Spells mark others rest → May ((all ++ value ∷ []) ++ others) → ⊥
       more [] spelled allowed = spelled
       more (next ∷ others) spelled allowed = full next others allowed
+
+  -- the same, of all the text, where the word was cut off
+  pub fails_cut : (May : List A → Type 0) (all : List A) (done rest text word : List ℕ) (after : Option (Bor (List ℕ))) (place : ℕ) → ((value : A) → May (all ++ value ∷ []))
+      → Marked Spells mark all done → text ≡ done ++ rest → IsCut mark rest word after → FailsAt Spells word place
+      → FailsAt (Among May (Joined Spells mark)) text (length text - length rest + place)
+  fails_cut May all done rest text word after place may marked parts (lacks, ends) fails =
+      let cut = tail after ends in
+      let whole : text ≡ done ++ (word ++ cut.0) = parts ∙ ap (λ t. done ++ t) cut.1 in
+      let before : length text - length rest ≡ length done = omega (arith, ap length parts, length-append done rest) in
+      subst (λ n. FailsAt (Among May (Joined Spells mark)) text (n + place)) (sym before)
+        (subst (λ t. FailsAt (Among May (Joined Spells mark)) t (length done + place)) (sym whole) (fails_joined May all done word cut.0 place may marked lacks cut.2 fails)) where
+    tail : (after : Option (Bor (List ℕ))) → MatchOption after (rest ≡ word) (λ others. rest ≡ word ++ mark ∷ others.now)
+        → (behind : List ℕ) × (rest ≡ word ++ behind) × ((behind ≡ []) ⊎ ((others : List ℕ) × (behind ≡ mark ∷ others)))
+    tail None is = ([], is ∙ sym (append-nil word), inl refl)
+    tail (Some others) is = (mark ∷ others.now, is, inr (others.now, refl))
+
+  pub fails_full_cut : (May : List A → Type 0) (all : List A) (done rest text word others : List ℕ) (value : A) → Marked Spells mark all done → text ≡ done ++ rest
+      → rest ≡ word ++ mark ∷ others → Spells value word → May (all ++ value ∷ []) → ((more : A) (others : List A) → May ((all ++ value ∷ []) ++ more ∷ others) → ⊥)
+      → FailsAt (Among May (Joined Spells mark)) text (length text - length rest + length word)
+  fails_full_cut May all done rest text word others value marked parts cut spelled may full =
+      let whole : text ≡ done ++ (word ++ mark ∷ others) = parts ∙ ap (λ t. done ++ t) cut in
+      let before : length text - length rest ≡ length done = omega (arith, ap length parts, length-append done rest) in
+      subst (λ n. FailsAt (Among May (Joined Spells mark)) text (n + length word)) (sym before)
+        (subst (λ t. FailsAt (Among May (Joined Spells mark)) t (length done + length word)) (sym whole) (fails_full May all done word others value marked spelled may full))
+
+  -- the text before the rest, with a word more
+  pub marked_cut : (all : List A) (done rest text word others : List ℕ) (value : A) → Marked Spells mark all done → text ≡ done ++ rest → rest ≡ word ++ mark ∷ others → Spells value word
+      → (done' : List ℕ) × Marked Spells mark (all ++ value ∷ []) done' × (text ≡ done' ++ others)
+  marked_cut all done rest text word others value marked parts cut spelled =
+      (done ++ (word ++ mark ∷ []), marked_more Spells mark all value done word marked spelled,
+        parts ∙ ap (λ t. done ++ t) (cut ∙ sym (append_assoc word (mark ∷ []) others)) ∙ sym (append_assoc done (word ++ mark ∷ []) others))

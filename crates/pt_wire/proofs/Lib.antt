@@ -9,3 +9,4 @@ pub mod JoinedTexts
 pub mod PrintedPlaces
 pub mod PrintedChoices
 pub mod PrintedBytes
+pub mod Integers

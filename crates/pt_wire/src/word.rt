@@ -76,7 +76,10 @@ fn read_integer(text: &[u8]) -> Result<i128, usize>
             Err(place) => Err(place),
         };
     }
-    if digits.first() == Some(&b'0') {
+    let Some((leading, _)) = digits.split_first() else {
+        return Err(1);
+    };
+    if *leading == b'0' {
         return Err(1);
     }
     match read_number(digits, GREATEST_MAGNITUDE) {
