@@ -70,3 +70,7 @@ fails_front Spells front rest place fails = record {
       subst (Spells more.0) (ap (λ t. t ++ more.1) cut ∙ append_assoc front (take (place + 1) rest) more.1) more.2 in
     fails.broken (omega (arith, length-append front rest)) (more.0, more.1, spelled);
 }
+
+-- the first cells of equal lists
+pub same_head : (a b : ℕ) (x y : List ℕ) → a ∷ x ≡ b ∷ y → a ≡ b
+same_head a b x y e = cc
