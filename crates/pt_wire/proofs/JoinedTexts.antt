@@ -106,7 +106,7 @@ module _ {A : Type 0} (Spells : A → List ℕ → Type 0) (mark : ℕ) (markabl
   joined_last (c ∷ d ∷ cs) word lacks (front, others, one, more, parts) = absurd (no_mark mark word front others lacks parts)
 
   -- a front with no mark begins a spelling of one value
-  joined_begins : (list : List A) (begin more : List ℕ) → Lacks mark begin → Joined Spells mark list (begin ++ more) → Begins Spells begin
+  pub joined_begins : (list : List A) (begin more : List ℕ) → Lacks mark begin → Joined Spells mark list (begin ++ more) → Begins Spells begin
   joined_begins [] begin more lacks spelled = absurd spelled
   joined_begins (c ∷ []) begin more lacks spelled = (c, more, spelled)
   joined_begins (c ∷ d ∷ cs) begin more lacks (front, others, one, rest, parts) =

@@ -10,3 +10,4 @@ pub mod PrintedPlaces
 pub mod PrintedChoices
 pub mod PrintedBytes
 pub mod Integers
+pub mod PrintedLists

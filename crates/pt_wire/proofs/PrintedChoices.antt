@@ -22,7 +22,7 @@ printed_more (first ∷ others) c text front some printed one = joined_more Prin
 
 -- ---- where the text of a choice fails
 
-choice_empty : (c : Choice) → PrintedChoice c [] → ⊥
+pub choice_empty : (c : Choice) → PrintedChoice c [] → ⊥
 choice_empty (choice.Bool value) (held, text, h) = cc
 choice_empty (choice.Int value) (held, text, h) = cc
 choice_empty (choice.Bytes bytes) (held, text, h) = cc
@@ -166,3 +166,10 @@ one_choice c d text h k = absurd (omega (arith, same_letter c d text h k))
 -- choices can be told apart by the spaces
 pub choices_markable : IsMarkable PrintedChoice 32
 choices_markable = record { clean = choice_lacks; one = one_choice }
+
+-- no choice begins with a minus
+pub no_minus : (c : Choice) (rest : List ℕ) → PrintedChoice c (45 ∷ rest) → ⊥
+no_minus (choice.Bool value) rest (held, text, h) = omega (arith, same_head 45 98 rest held text)
+no_minus (choice.Int value) rest (held, text, h) = omega (arith, same_head 45 105 rest held text)
+no_minus (choice.Bytes bytes) rest (held, text, h) = omega (arith, same_head 45 120 rest held text)
+no_minus (choice.Text places) rest (held, text, h) = omega (arith, same_head 45 116 rest held text)
