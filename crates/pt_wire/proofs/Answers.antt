@@ -1,8 +1,9 @@
 -- What the answers of a reader say of each other.
-use Rattle.std.proofs.Common.{◌≡◌, ℕ, ◌<◌, ◌≤◌, List, length, Result, Ok, Err, MatchResult, sym, subst, arith}
+use Rattle.std.proofs.Common.{◌≡◌, ℕ, ◌<◌, ◌≤◌, List, length, Result, Ok, Err, MatchResult, IfOk, All, ◌⊎◌, inl, inr, refl, ap, sym, subst, arith}
 use Rattle.pt_choice.specs.declared.choice.Choice.{Choice}
 use Rattle.pt_wire.specs.declared.fault.WireFault.{WireFault}
 use Rattle.pt_wire.specs.declared.fault.WireFault.TheVariants as fault
+use Rattle.pt_wire.specs.Limits.{IsInLimits, IsWritable}
 use Rattle.pt_wire.specs.Answer.{Reads, IsAnswerFor}
 
 -- where at most one list is spelled, the answer is the one for that list
@@ -22,3 +23,16 @@ reads_gathered Spells bytes all (Ok list) spelled (same, few) = (subst (λ l. Sp
 reads_gathered Spells bytes all (Err fault.TooLong) spelled (same, many) = (all, spelled, many)
 reads_gathered Spells bytes all (Err (fault.NotSpelling place)) spelled (same, many) = absurd cc
 reads_gathered Spells bytes all (Err fault.NoMemory) spelled gathered = tt
+
+-- of a list that may be written the answer is that list
+pub answer_again : (list : List Choice) (answer : Result (List Choice) WireFault) → length list ≤ 256 → IsAnswerFor list answer → (answer ≡ Ok list) ⊎ (answer ≡ Err fault.NoMemory)
+answer_again list (Ok found) few (same, small) = inl (ap (λ l. Ok l) same)
+answer_again list (Err fault.TooLong) few many = absurd (omega arith)
+answer_again list (Err (fault.NotSpelling place)) few never = absurd never
+answer_again list (Err fault.NoMemory) few free = inr refl
+
+-- an answer is a list that may be written, where what is spelled is
+pub answer_writable : (Spells : List Choice → List ℕ → Type 0) (bytes : List ℕ) (answer : Result (List Choice) WireFault)
+    → ((list : List Choice) → Spells list bytes → All IsInLimits list) → Reads Spells bytes answer → IfOk answer IsWritable
+answer_writable Spells bytes (Ok list) limits (spelled, few) = record { few = few; each = limits list spelled }
+answer_writable Spells bytes (Err why) limits reads = tt

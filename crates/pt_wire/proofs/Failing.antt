@@ -1,5 +1,7 @@
 -- Where reading fails, from the parts of an input to the whole.
-use Rattle.std.proofs.Common.{◌≡◌, ℕ, zero, suc, ◌+◌, ◌<◌, ◌≤◌, List, [], ◌∷◌, ◌++◌, length, take, refl, sym, ap, subst, ◌∙◌, append_assoc, arith, add-one, length-append}
+use Rattle.std.proofs.Common.{◌≡◌, ℕ, zero, suc, ◌+◌, ◌<◌, ◌≤◌, List, [], ◌∷◌, ◌++◌, length, take, drop, refl, sym, ap, subst, ◌∙◌, append_assoc, arith, inl, inr, add-one, length-append}
+use Rattle.std.proofs.lemmas.Bool.{cases_lt}
+use Rattle.std.proofs.lemmas.List.{take-append-drop, take-take}
 use Rattle.std.proofs.Math.Seq.{take-append-add}
 use Rattle.pt_wire.specs.Spelling.{Begins, FailsAt, Splits, StartsWith}
 
@@ -74,3 +76,19 @@ fails_front Spells front rest place fails = record {
 -- the first cells of equal lists
 pub same_head : (a b : ℕ) (x y : List ℕ) → a ∷ x ≡ b ∷ y → a ≡ b
 same_head a b x y e = cc
+
+-- the front of what begins a spelling begins one
+begins_front : {A : Type 0} (Spells : A → List ℕ → Type 0) (bytes : List ℕ) (m n : ℕ) → m ≤ n → Begins Spells (take n bytes) → Begins Spells (take m bytes)
+begins_front Spells bytes m n le (value, rest, spelled) =
+    let parts : take n bytes ≡ take m bytes ++ drop m (take n bytes) = sym (take-append-drop m (take n bytes)) ∙ ap (λ t. t ++ drop m (take n bytes)) (take-take m n bytes le) in
+    (value, drop m (take n bytes) ++ rest, subst (Spells value) (ap (λ t. t ++ rest) parts ∙ append_assoc (take m bytes) (drop m (take n bytes)) rest) spelled)
+
+-- an input fails at one place at most
+pub one_place : {A : Type 0} (Spells : A → List ℕ → Type 0) (bytes : List ℕ) (a b : ℕ) → FailsAt Spells bytes a → FailsAt Spells bytes b → a ≡ b
+one_place Spells bytes a b h k = elim (cases_lt a b) [
+    | inl less ↦ let within = k.within in absurd (h.broken (omega arith) (begins_front Spells bytes (a + 1) b (omega arith) k.begun))
+    | inr more ↦ elim (cases_lt b a) [
+      | inl less ↦ let within = h.within in absurd (k.broken (omega arith) (begins_front Spells bytes (b + 1) a (omega arith) h.begun))
+      | inr same ↦ omega arith
+    ]
+  ]

@@ -11,3 +11,5 @@ pub mod PrintedChoices
 pub mod PrintedBytes
 pub mod Integers
 pub mod PrintedLists
+pub mod OneSpelling
+pub mod Limited

@@ -1,6 +1,7 @@
 ghost use Rattle.std.specs.Prelude.{◌≡◌, ◌-◌, ◌<◌, ◌≤◌, ◌^◌, List, length, unsigned_abs, IfErr, IfOk};
 ghost use Rattle.pt_choice.specs.declared.choice.Choice.{Choice};
 ghost use Rattle.pt_wire.specs.Answer.{IsAnswerFor, Reads, StopsAt};
+ghost use Rattle.pt_wire.specs.Limits.{IsWritable};
 ghost use Rattle.pt_wire.specs.Spelling.{FailsAt, Splits, StartsWith};
 ghost use Rattle.pt_wire.specs.Stored.{IsCounted, Stored, StoredChoice, zigzag};
 
@@ -17,6 +18,7 @@ pub fn decode(alloc: Global, bytes: &[u8]) -> Result<Choices, WireFault>
     requires { length bytes.now < 2 ^ 32 }
     ensures reads { Reads Stored bytes.now result }
     ensures only { (list : List Choice) → Stored list bytes.now → IsAnswerFor list result }
+    ensures writable { IfOk result IsWritable }
 {
     let mut gathered = none_gathered(alloc);
     let mut rest = bytes;

@@ -1,6 +1,7 @@
-ghost use Rattle.std.specs.Prelude.{◌≡◌, ◌<◌, ◌^◌, List, length};
+ghost use Rattle.std.specs.Prelude.{◌≡◌, ◌<◌, ◌^◌, List, length, IfOk};
 ghost use Rattle.pt_choice.specs.declared.choice.Choice.{Choice};
 ghost use Rattle.pt_wire.specs.Answer.{IsAnswerFor, Reads};
+ghost use Rattle.pt_wire.specs.Limits.{IsWritable};
 ghost use Rattle.pt_wire.specs.Printed.{Printed, PrintedChoice};
 ghost use Rattle.pt_wire.specs.Spelling.{Joined};
 
@@ -18,6 +19,7 @@ pub fn read_choices(alloc: Global, text: &[u8]) -> Result<Choices, WireFault>
     requires { length text.now < 2 ^ 32 }
     ensures reads { Reads Printed text.now result }
     ensures only { (list : List Choice) → Printed list text.now → IsAnswerFor list result }
+    ensures writable { IfOk result IsWritable }
 {
     let Some((first, others)) = text.split_first() else {
         return Err(WireFault::NotSpelling { at: 0 });
