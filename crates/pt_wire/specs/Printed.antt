@@ -5,6 +5,14 @@ use Rattle.pt_choice.specs.declared.choice.Choice.{Choice}
 use Rattle.pt_choice.specs.declared.choice.Choice.TheVariants as choice
 use Rattle.pt_wire.specs.Spelling.{Among, Chained, Joined}
 
+-- what stands between two choices
+abbrev pub space : ℕ
+space = 32
+
+-- what stands between two places
+abbrev pub dot : ℕ
+dot = 46
+
 -- a letter for the value
 abbrev pub PrintedBool : Bool → List ℕ → Type 0
 PrintedBool false text = text ≡ codes "f"
@@ -18,14 +26,14 @@ PrintedInteger value text = (text ≡ signed_decimal value) × (unsigned_abs val
 abbrev pub PrintedByte : ℕ → List ℕ → Type 0
 PrintedByte byte text = (text ≡ digit_glyph false (byte / 16) ∷ digit_glyph false (byte % 16) ∷ []) × (byte < 256)
 
--- decimal digits
+-- decimal digits of a number that is not above the most
 abbrev pub PrintedNumber : ℕ → ℕ → List ℕ → Type 0
 PrintedNumber most number text = (text ≡ decimal number) × (number ≤ most)
 
 -- numbers below 256 with a `.` between them, or nothing
 abbrev pub PrintedPlaces : List ℕ → List ℕ → Type 0
 PrintedPlaces [] text = text ≡ []
-PrintedPlaces (first ∷ others) text = Joined (PrintedNumber 255) 46 (first ∷ others) text
+PrintedPlaces (first ∷ others) text = Joined (PrintedNumber 255) dot (first ∷ others) text
 
 -- no more values than a choice may hold
 abbrev pub IsFew : List ℕ → Type 0
@@ -41,4 +49,4 @@ PrintedChoice (choice.Text places) text = (held : List ℕ) × (text ≡ codes "
 -- a list: `-` where it is empty, and else its choices with one space between each two
 abbrev pub Printed : List Choice → List ℕ → Type 0
 Printed [] text = text ≡ codes "-"
-Printed (first ∷ others) text = Joined PrintedChoice 32 (first ∷ others) text
+Printed (first ∷ others) text = Joined PrintedChoice space (first ∷ others) text

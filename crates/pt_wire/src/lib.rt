@@ -14,7 +14,7 @@ mod number;
 mod printing;
 mod reading;
 mod word;
-mod words;
+mod mark;
 
 pub use decoding::decode;
 pub use encoding::encode;
@@ -22,3 +22,6 @@ pub use fault::WireFault;
 pub use laws::{one_list, one_place, one_spelling, read_again};
 pub use printing::print_choices;
 pub use reading::read_choices;
+
+#[cfg(test)]
+mod tests;

@@ -2,14 +2,14 @@ ghost use Rattle.std.specs.Prelude.{◌≡◌, ◌<◌, ◌^◌, List, length, I
 ghost use Rattle.pt_choice.specs.declared.choice.Choice.{Choice};
 ghost use Rattle.pt_wire.specs.Answer.{IsAnswerFor, Reads};
 ghost use Rattle.pt_wire.specs.Limits.{IsWritable};
-ghost use Rattle.pt_wire.specs.Printed.{Printed, PrintedChoice};
+ghost use Rattle.pt_wire.specs.Printed.{Printed, PrintedChoice, space};
 ghost use Rattle.pt_wire.specs.Spelling.{Joined};
 
 use crate::WireFault;
 use crate::fault::Stop;
 use crate::gathered::{all_gathered, gather, none_gathered};
 use crate::word::read_word;
-use crate::words::cut;
+use crate::mark::cut;
 use pt_choice::{Choice, Choices};
 use std::alloc::Global;
 
@@ -37,7 +37,7 @@ pub fn read_choices(alloc: Global, text: &[u8]) -> Result<Choices, WireFault>
 /// Reads one choice or more with a space between each two.
 fn read_words(alloc: Global, text: &[u8]) -> Result<Choices, WireFault>
     requires { length text.now < 2 ^ 32 }
-    ensures { Reads (Joined PrintedChoice 32) text.now result }
+    ensures { Reads (Joined PrintedChoice space) text.now result }
 {
     let mut gathered = none_gathered(alloc);
     let mut rest = text;

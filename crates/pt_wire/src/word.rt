@@ -6,7 +6,7 @@ ghost use Rattle.pt_wire.specs.Spelling.{Among, Chained, FailsAt, Splits, Starts
 
 use crate::fault::Stop;
 use crate::number::read_number;
-use crate::words::cut;
+use crate::mark::cut;
 use pt_choice::{Choice, Octets};
 use std::alloc::Global;
 

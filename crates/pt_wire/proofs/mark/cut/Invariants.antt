@@ -1,6 +1,6 @@
 use Rattle.std.proofs.Common.{take}
 use Rattle.pt_wire.proofs.JoinedTexts.{Lacks}
-use Rattle.pt_wire.proofs.words.cut.Given as goal
+use Rattle.pt_wire.proofs.mark.cut.Given as goal
 
 -- no mark was met
 abbrev pub invariant-loop-place : goal.invariant-loop-place
