@@ -3,7 +3,7 @@ use Rattle.std.proofs.Common.{◌≡◌, ℕ, ◌+◌, ◌-◌, ◌<◌, ◌≤�
 use Rattle.std.proofs.Math.Seq.{take-append-add}
 use Rattle.std.proofs.lemmas.Bool.{cases_lt}
 use Rattle.std.proofs.lemmas.List.{append-nil, append_cancel_left, take-append-drop, take_at, take-append-le}
-use Rattle.pt_wire.specs.Spelling.{Among, Begins, Chained, FailsAt, Splits, StartsWith}
+use Rattle.pt_wire.specs.Spelling.{Among, Begins, Chained, FailsAt, StartsWith}
 
 -- no spelling is empty, and none begins another
 pub record IsPrefixFree {A : Type 0} (Spells : A → List ℕ → Type 0) : Type 0 where
@@ -64,19 +64,19 @@ fails_after : {A : Type 0} (May : List A → Type 0) (Spells : A → List ℕ �
     → FailsAt (Among May (Chained Spells)) (done ++ byte ∷ bytes) (length done + place)
 fails_after {A} May Spells free all done byte bytes place may chained fails = record {
   none = λ list spelled.
-    let behind = chained_rest Spells free all list done (byte ∷ bytes) chained spelled.1 in
-    let first = starts_first Spells behind.0 byte bytes behind.2 in
-    fails.none first.0 first.1;
+      let behind = chained_rest Spells free all list done (byte ∷ bytes) chained spelled.1 in
+      let first = starts_first Spells behind.0 byte bytes behind.2 in
+      fails.none first.0 first.1;
   within = let inside = fails.within in omega (arith, length-append done (byte ∷ bytes));
   begun = rw (take-append-add done (byte ∷ bytes) place) (begun fails.begun);
   broken = λ lt more.
-    let cut : take (length done + place + 1) (done ++ byte ∷ bytes) ≡ done ++ byte ∷ take place bytes =
+      let cut : take (length done + place + 1) (done ++ byte ∷ bytes) ≡ done ++ byte ∷ take place bytes =
       ap (λ n. take n (done ++ byte ∷ bytes)) (omega arith) ∙ take-append-add done (byte ∷ bytes) (place + 1) ∙ rw (add-one place) refl in
-    let spelled : Chained Spells more.0 (done ++ (byte ∷ (take place bytes ++ more.1))) =
+      let spelled : Chained Spells more.0 (done ++ (byte ∷ (take place bytes ++ more.1))) =
       subst (Chained Spells more.0) (ap (λ t. t ++ more.1) cut ∙ append_assoc done (byte ∷ take place bytes) more.1) more.2.1 in
-    let behind = chained_rest Spells free all more.0 done (byte ∷ (take place bytes ++ more.1)) chained spelled in
-    let first = starts_first Spells behind.0 byte (take place bytes ++ more.1) behind.2 in
-    fails.broken (omega (arith, length-append done (byte ∷ bytes)))
+      let behind = chained_rest Spells free all more.0 done (byte ∷ (take place bytes ++ more.1)) chained spelled in
+      let first = starts_first Spells behind.0 byte (take place bytes ++ more.1) behind.2 in
+      fails.broken (omega (arith, length-append done (byte ∷ bytes)))
       (first.0, more.1, subst (λ n. StartsWith Spells first.0 (take n (byte ∷ bytes) ++ more.1)) (sym (add-one place)) first.1);
 } where
   begun : Begins (StartsWith Spells) (take place (byte ∷ bytes)) → Begins (Among May (Chained Spells)) (done ++ take place (byte ∷ bytes))
@@ -84,14 +84,14 @@ fails_after {A} May Spells free all done byte bytes place may chained fails = re
       let begin = take place (byte ∷ bytes) in
       elim (cases_lt (length front) (length begin)) [
         | inl short ↦
-          let goes_on : begin ≡ front ++ drop (length front) begin = longer_front front begin after more (sym parts) (omega arith) in
-          let whole : byte ∷ bytes ≡ front ++ (drop (length front) begin ++ drop place (byte ∷ bytes)) =
+            let goes_on : begin ≡ front ++ drop (length front) begin = longer_front front begin after more (sym parts) (omega arith) in
+            let whole : byte ∷ bytes ≡ front ++ (drop (length front) begin ++ drop place (byte ∷ bytes)) =
             sym (take-append-drop place (byte ∷ bytes)) ∙ ap (λ t. t ++ drop place (byte ∷ bytes)) goes_on ∙ append_assoc front (drop (length front) begin) (drop place (byte ∷ bytes)) in
-          absurd (fails.none c (drop (length front) begin ++ drop place (byte ∷ bytes), (front, one, whole)))
+            absurd (fails.none c (drop (length front) begin ++ drop place (byte ∷ bytes), (front, one, whole)))
         | inr long ↦
-          let goes_on : front ≡ begin ++ drop (length begin) front = longer_front begin front more after parts long in
-          let text = ap (λ t. done ++ t) goes_on ∙ sym (append_assoc done begin (drop (length begin) front)) in
-          (all ++ c ∷ [], drop (length begin) front, (may c, subst (Chained Spells (all ++ c ∷ [])) text (chained_more Spells all c done front chained one)))
+            let goes_on : front ≡ begin ++ drop (length begin) front = longer_front begin front more after parts long in
+            let text = ap (λ t. done ++ t) goes_on ∙ sym (append_assoc done begin (drop (length begin) front)) in
+            (all ++ c ∷ [], drop (length begin) front, (may c, subst (Chained Spells (all ++ c ∷ [])) text (chained_more Spells all c done front chained one)))
       ]
 
 -- the same, of all the bytes
@@ -102,7 +102,7 @@ fails_within May Spells free all done [] bytes place may chained parts some fail
 fails_within May Spells free all done (byte ∷ rest) bytes place may chained parts some fails =
     let before : length bytes - length (byte ∷ rest) ≡ length done = omega (arith, ap length parts, length-append done (byte ∷ rest)) in
     subst (λ n. FailsAt (Among May (Chained Spells)) bytes (n + place)) (sym before)
-      (subst (λ b. FailsAt (Among May (Chained Spells)) b (length done + place)) (sym parts) (fails_after May Spells free all done byte rest place may chained fails))
+    (subst (λ b. FailsAt (Among May (Chained Spells)) b (length done + place)) (sym parts) (fails_after May Spells free all done byte rest place may chained fails))
 
 -- where every list may be spelled
 pub fails_anyway : {A : Type 0} (Spells : List A → List ℕ → Type 0) (bytes : List ℕ) (place : ℕ) → FailsAt (Among (λ _. Unit {0}) Spells) bytes place → FailsAt Spells bytes place
@@ -122,16 +122,16 @@ fails_full {A} May Spells free all done byte bytes may full chained = record {
   within = omega (arith, length-append done (byte ∷ bytes));
   begun = rw (take_at done (byte ∷ bytes) (length done) refl) (all, [], (may, subst (Chained Spells all) (sym (append-nil done)) chained));
   broken = λ lt more.
-    let cut : take (length done + 1) (done ++ byte ∷ bytes) ≡ done ++ byte ∷ [] = take-append-add done (byte ∷ bytes) 1 in
-    none more.0 more.1 more.2.0 (subst (Chained Spells more.0) (ap (λ t. t ++ more.1) cut ∙ append_assoc done (byte ∷ []) more.1) more.2.1);
+      let cut : take (length done + 1) (done ++ byte ∷ bytes) ≡ done ++ byte ∷ [] = take-append-add done (byte ∷ bytes) 1 in
+      none more.0 more.1 more.2.0 (subst (Chained Spells more.0) (ap (λ t. t ++ more.1) cut ∙ append_assoc done (byte ∷ []) more.1) more.2.1);
 } where
   none : (list : List A) (rest : List ℕ) → May list → Chained Spells list (done ++ byte ∷ rest) → ⊥
   none list rest allowed whole =
       let behind = chained_rest Spells free all list done (byte ∷ rest) chained whole in
       more behind.0 behind.2 (subst May behind.1 allowed) where
-    more : (others : List A) → Chained Spells others (byte ∷ rest) → May (all ++ others) → ⊥
-    more [] spelled allowed = let nothing : byte ∷ rest ≡ [] = spelled in cc
-    more (next ∷ others) spelled allowed = full next others allowed
+        more : (others : List A) → Chained Spells others (byte ∷ rest) → May (all ++ others) → ⊥
+        more [] spelled allowed = let nothing : byte ∷ rest ≡ [] = spelled in cc
+        more (next ∷ others) spelled allowed = full next others allowed
 
 -- the same, of all the bytes
 pub fails_full_within : {A : Type 0} (May : List A → Type 0) (Spells : A → List ℕ → Type 0) → IsPrefixFree Spells → (all : List A) (done rest bytes : List ℕ)
@@ -141,4 +141,4 @@ fails_full_within May Spells free all done [] bytes may full chained parts some 
 fails_full_within May Spells free all done (byte ∷ rest) bytes may full chained parts some =
     let before : length bytes - length (byte ∷ rest) ≡ length done = omega (arith, ap length parts, length-append done (byte ∷ rest)) in
     subst (FailsAt (Among May (Chained Spells)) bytes) (sym before)
-      (subst (λ b. FailsAt (Among May (Chained Spells)) b (length done)) (sym parts) (fails_full May Spells free all done byte rest may full chained))
+    (subst (λ b. FailsAt (Among May (Chained Spells)) b (length done)) (sym parts) (fails_full May Spells free all done byte rest may full chained))

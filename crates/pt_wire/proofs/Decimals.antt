@@ -1,9 +1,7 @@
 -- Decimal digits, read from the left.
-use Rattle.std.proofs.Common.{◌≡◌, ℕ, zero, suc, ◌+◌, ◌*◌, ◌-◌, ◌/◌, ◌%◌, ◌^◌, ◌<◌, ◌≤◌, List, [], ◌∷◌, ◌++◌, length, get_or, take, Option, Some, None, IfSome, IfErr, ok_or, unwrap_or, refl, sym, ap, subst, ◌∙◌, append_assoc, inl, inr, arith, length-append}
+use Rattle.std.proofs.Common.{◌≡◌, ℕ, zero, suc, ◌+◌, ◌*◌, ◌-◌, ◌/◌, ◌%◌, ◌^◌, ◌<◌, ◌≤◌, List, [], ◌∷◌, ◌++◌, length, get_or, take, Option, Some, None, IfSome, IfErr, ok_or, unwrap_or, refl, sym, ap, subst, ◌∙◌, append_assoc, arith, length-append}
 use Rattle.std.specs.Fmt.{decimal}
-use Rattle.std.specs.Char.{digit_value}
-use Rattle.std.specs.Str.Parse.{digits_value, AllDigits}
-use Rattle.std.proofs.lemmas.Bool.{cases_lt}
+use Rattle.std.specs.Str.Parse.{digits_value}
 use Rattle.std.proofs.lemmas.List.{append-nil, get_or_at, take_at}
 use Rattle.std.proofs.lemmas.Fmt.{decimal_is_IsNumeral, decimal_digit, decimal_nonempty, decimal_step, first_decimal}
 use Rattle.std.proofs.lemmas.Int.Digits.{digits_value_push}
@@ -46,9 +44,9 @@ at_least_front number byte front rest small before e =
     let digit = digit_value_digit byte range in
     let value = front_value front before in
     omega arith where
-  front_value : (front : Option ℕ) → IfSome front (λ value. value < 2 ^ 64) → digits_value 10 (digits_of front) ≡ unwrap_or front 0
-  front_value None before = refl
-  front_value (Some value) before = (decimal_is_IsNumeral value before).1
+      front_value : (front : Option ℕ) → IfSome front (λ value. value < 2 ^ 64) → digits_value 10 (digits_of front) ≡ unwrap_or front 0
+      front_value None before = refl
+      front_value (Some value) before = (decimal_is_IsNumeral value before).1
 
 -- a number with one digit more at its end
 pub decimal_more : (value digit : ℕ) → 0 < value → digit < 10 → 10 * value + digit < 2 ^ 64 → decimal (10 * value + digit) ≡ decimal value ++ (48 + digit) ∷ []
@@ -71,11 +69,11 @@ pub number_fails : (most : ℕ) (number : Option ℕ) (byte : ℕ) (rest : List 
 number_fails most number byte rest small broken =
     let front = digits_of number in
     subst (FailsAt (PrintedNumber most) (front ++ byte ∷ rest)) (omega arith)
-      (fails_front (PrintedNumber most) front (byte ∷ rest) 0
-        (fails_here (λ value text. PrintedNumber most value (front ++ text)) byte rest (begun number small) (λ value more h. broken value more h.1 (sym h.0)))) where
-  begun : (number : Option ℕ) → IfSome number (λ value. value ≤ most) → Begins (λ value text. PrintedNumber most value (digits_of number ++ text)) []
-  begun None small = (0, decimal 0, (refl, omega arith))
-  begun (Some value) small = (value, [], (append-nil (decimal value), small))
+    (fails_front (PrintedNumber most) front (byte ∷ rest) 0
+    (fails_here (λ value text. PrintedNumber most value (front ++ text)) byte rest (begun number small) (λ value more h. broken value more h.1 (sym h.0)))) where
+      begun : (number : Option ℕ) → IfSome number (λ value. value ≤ most) → Begins (λ value text. PrintedNumber most value (digits_of number ++ text)) []
+      begun None small = (0, decimal 0, (refl, omega arith))
+      begun (Some value) small = (value, [], (append-nil (decimal value), small))
 
 -- a number fails where there are no digits
 pub number_ends : (most : ℕ) (number : Option ℕ) (digits : List ℕ) → most < 2 ^ 64 → digits ≡ digits_of number → IfErr (ok_or number 0) (FailsAt (PrintedNumber most) digits)

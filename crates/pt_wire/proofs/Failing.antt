@@ -1,9 +1,9 @@
 -- Where reading fails, from the parts of an input to the whole.
-use Rattle.std.proofs.Common.{◌≡◌, ℕ, zero, suc, ◌+◌, ◌<◌, ◌≤◌, List, [], ◌∷◌, ◌++◌, length, take, drop, refl, sym, ap, subst, ◌∙◌, append_assoc, arith, inl, inr, add-one, length-append}
+use Rattle.std.proofs.Common.{◌≡◌, ℕ, ◌+◌, ◌≤◌, List, [], ◌∷◌, ◌++◌, length, take, drop, refl, sym, ap, subst, ◌∙◌, append_assoc, arith, inl, inr, add-one, length-append}
 use Rattle.std.proofs.lemmas.Bool.{cases_lt}
 use Rattle.std.proofs.lemmas.List.{take-append-drop, take-take}
 use Rattle.std.proofs.Math.Seq.{take-append-add}
-use Rattle.pt_wire.specs.Spelling.{Begins, FailsAt, Splits, StartsWith}
+use Rattle.pt_wire.specs.Spelling.{Begins, FailsAt, StartsWith}
 
 -- at the end of no bytes
 pub fails_at_end : {A : Type 0} (Spells : A → List ℕ → Type 0) → Begins Spells [] → ((value : A) → Spells value [] → ⊥) → FailsAt Spells [] 0
@@ -29,9 +29,9 @@ fails_behind Inner Outer byte bytes place out to from fails = record {
   within = let inside = fails.within in omega arith;
   begun = rw add-one (out fails.begun.0, fails.begun.1, to fails.begun.0 (take place bytes ++ fails.begun.1) fails.begun.2);
   broken = λ lt more.
-    let more' = rw (add-one (place + 1)) at more in
-    let inside = from more'.0 (take (place + 1) bytes ++ more'.1) more'.2 in
-    fails.broken (omega arith) (inside.0, more'.1, inside.1);
+      let more' = rw (add-one (place + 1)) at more in
+      let inside = from more'.0 (take (place + 1) bytes ++ more'.1) more'.2 in
+      fails.broken (omega arith) (inside.0, more'.1, inside.1);
 }
 
 -- a spelling at the front goes on behind a first byte
@@ -64,13 +64,13 @@ fails_front Spells front rest place fails = record {
   none = fails.none;
   within = let inside = fails.within in omega (arith, length-append front rest);
   begun = let begun = fails.begun in
-    rw (take-append-add front rest place) (begun.0, begun.1, subst (Spells begun.0) (sym (append_assoc front (take place rest) begun.1)) begun.2);
+      rw (take-append-add front rest place) (begun.0, begun.1, subst (Spells begun.0) (sym (append_assoc front (take place rest) begun.1)) begun.2);
   broken = λ lt more.
-    let cut : take (length front + place + 1) (front ++ rest) ≡ front ++ take (place + 1) rest =
+      let cut : take (length front + place + 1) (front ++ rest) ≡ front ++ take (place + 1) rest =
       ap (λ n. take n (front ++ rest)) (omega arith) ∙ take-append-add front rest (place + 1) in
-    let spelled : Spells more.0 (front ++ (take (place + 1) rest ++ more.1)) =
+      let spelled : Spells more.0 (front ++ (take (place + 1) rest ++ more.1)) =
       subst (Spells more.0) (ap (λ t. t ++ more.1) cut ∙ append_assoc front (take (place + 1) rest) more.1) more.2 in
-    fails.broken (omega (arith, length-append front rest)) (more.0, more.1, spelled);
+      fails.broken (omega (arith, length-append front rest)) (more.0, more.1, spelled);
 }
 
 -- the first cells of equal lists
@@ -86,9 +86,9 @@ begins_front Spells bytes m n le (value, rest, spelled) =
 -- an input fails at one place at most
 pub one_place : {A : Type 0} (Spells : A → List ℕ → Type 0) (bytes : List ℕ) (a b : ℕ) → FailsAt Spells bytes a → FailsAt Spells bytes b → a ≡ b
 one_place Spells bytes a b h k = elim (cases_lt a b) [
-    | inl less ↦ let within = k.within in absurd (h.broken (omega arith) (begins_front Spells bytes (a + 1) b (omega arith) k.begun))
-    | inr more ↦ elim (cases_lt b a) [
-      | inl less ↦ let within = h.within in absurd (k.broken (omega arith) (begins_front Spells bytes (b + 1) a (omega arith) h.begun))
-      | inr same ↦ omega arith
-    ]
+  | inl less ↦ let within = k.within in absurd (h.broken (omega arith) (begins_front Spells bytes (a + 1) b (omega arith) k.begun))
+  | inr more ↦ elim (cases_lt b a) [
+    | inl less ↦ let within = h.within in absurd (k.broken (omega arith) (begins_front Spells bytes (b + 1) a (omega arith) h.begun))
+    | inr same ↦ omega arith
   ]
+]

@@ -1,7 +1,7 @@
 -- Integers in decimal digits, with a minus in front of those below 0.
-use Rattle.std.proofs.Common.{◌≡◌, ℕ, zero, suc, ◌+◌, ◌-◌, ◌^◌, ◌<◌, ◌≤◌, ℤ, pos, negsuc, ◌-ℤ◌, unsigned_abs, SFits, to_z, of_z, List, [], ◌∷◌, ◌++◌, length, get_or, take, refl, sym, ap, subst, ◌∙◌, arith, rules, add-one}
+use Rattle.std.proofs.Common.{◌≡◌, ℕ, zero, suc, ◌+◌, ◌-◌, ◌^◌, ◌<◌, ◌≤◌, ℤ, pos, negsuc, ◌-ℤ◌, SFits, to_z, of_z, List, [], ◌∷◌, ◌++◌, length, get_or, take, refl, sym, ap, ◌∙◌, arith, rules, add-one}
 use Rattle.std.specs.Int.{w128}
-use Rattle.std.specs.Fmt.{decimal, signed_decimal}
+use Rattle.std.specs.Fmt.{decimal}
 use Rattle.std.proofs.lemmas.Fmt.{decimal_digit, decimal_nonempty, first_decimal}
 use Rattle.std.proofs.lemmas.Int.{ints, to_z_pos, to_z-of_z}
 use Rattle.pt_wire.specs.Spelling.{Begins, FailsAt}
@@ -36,6 +36,7 @@ plain_fails first others place plain fails = record {
   none : (value : ℤ) → PrintedInteger value (first ∷ others) → ⊥
   none (pos n) (text, small) = fails.none n (text, omega arith)
   none (negsuc n) (text, small) = plain cc
+
   broken : place < length (first ∷ others) → (value : ℤ) (more : List ℕ) → PrintedInteger value (take (place + 1) (first ∷ others) ++ more) → ⊥
   broken lt (pos n) more (text, small) = fails.broken lt (n, more, (text, omega arith))
   broken lt (negsuc n) more (text, small) =
@@ -47,6 +48,7 @@ minus_behind : (digits : List ℕ) (place : ℕ) → FailsAt Positive digits pla
 minus_behind digits place = fails_behind Positive PrintedInteger 45 digits place (λ number. negsuc (number - 1)) to from where
   to : (number : ℕ) (rest : List ℕ) → Positive number rest → PrintedInteger (negsuc (number - 1)) (45 ∷ rest)
   to number rest (text, some, small) = (ap (λ t. 45 ∷ t) (text ∙ ap decimal (omega arith)), omega arith)
+
   from : (value : ℤ) (rest : List ℕ) → PrintedInteger value (45 ∷ rest) → (number : ℕ) × Positive number rest
   from (pos n) rest (text, small) = let range = digit_within n 45 [] rest small (sym text) in absurd (omega arith)
   from (negsuc n) rest (text, small) = (suc n, (cc, omega arith, omega arith))

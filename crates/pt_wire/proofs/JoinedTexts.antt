@@ -1,10 +1,10 @@
 -- Spellings with a mark between each two, where no spelling holds the mark.
-use Rattle.std.proofs.Common.{Option, Some, None, MatchOption, ◌⊎◌, ◌≡◌, ◌≢◌, ℕ, zero, suc, ◌+◌, ◌-◌, ◌<◌, ◌≤◌, List, [], ◌∷◌, ◌++◌, length, take, drop, refl, sym, ap, subst, ◌∙◌, append_assoc, arith, inl, inr, add-one, length-append}
+use Rattle.std.proofs.Common.{Option, Some, None, MatchOption, ◌⊎◌, ◌≡◌, ◌≢◌, ℕ, zero, suc, ◌+◌, ◌-◌, ◌<◌, ◌≤◌, List, [], ◌∷◌, ◌++◌, length, take, refl, sym, ap, subst, ◌∙◌, append_assoc, arith, inl, inr, length-append}
 use Rattle.std.specs.Borrow.{Bor}
 use Rattle.std.specs.List.{AllByRecursion}
 use Rattle.std.proofs.Math.Seq.{take-append-add}
 use Rattle.std.proofs.lemmas.Bool.{cases_lt}
-use Rattle.std.proofs.lemmas.List.{append-nil, append_cancel_left, take_at, take_all, take-append-le, take-append-drop}
+use Rattle.std.proofs.lemmas.List.{append-nil, take_at, take-append-le}
 use Rattle.pt_wire.specs.Spelling.{Among, Begins, FailsAt, IsCut, Joined}
 
 -- the mark stands nowhere in the bytes
@@ -135,17 +135,17 @@ module _ {A : Type 0} (Spells : A → List ℕ → Type 0) (mark : ℕ) (markabl
     none = λ list spelled. none list spelled.1 ends;
     within = let inside = fails.within in omega (arith, length-append done (word ++ tail), length-append word tail);
     begun =
-      let begun = fails.begun in
-      let front : take place (word ++ tail) ≡ take place word = take-append-le place word tail fails.within in
-      rw (take-append-add done (word ++ tail) place, front)
+        let begun = fails.begun in
+        let front : take place (word ++ tail) ≡ take place word = take-append-le place word tail fails.within in
+        rw (take-append-add done (word ++ tail) place, front)
         (all ++ begun.0 ∷ [], begun.1, (may begun.0, subst (Joined Spells mark (all ++ begun.0 ∷ [])) (sym (append_assoc done (take place word) begun.1)) (joined_end Spells mark all begun.0 done (take place word ++ begun.1) marked begun.2)));
     broken = λ lt more.
-      let cut : take (length done + place + 1) (done ++ (word ++ tail)) ≡ done ++ take (place + 1) (word ++ tail) =
+        let cut : take (length done + place + 1) (done ++ (word ++ tail)) ≡ done ++ take (place + 1) (word ++ tail) =
         ap (λ n. take n (done ++ (word ++ tail))) (omega arith) ∙ take-append-add done (word ++ tail) (place + 1) in
-      let spelled : Joined Spells mark more.0 (done ++ (take (place + 1) (word ++ tail) ++ more.1)) =
+        let spelled : Joined Spells mark more.0 (done ++ (take (place + 1) (word ++ tail) ++ more.1)) =
         subst (Joined Spells mark more.0) (ap (λ t. t ++ more.1) cut ∙ append_assoc done (take (place + 1) (word ++ tail)) more.1) more.2.1 in
-      let behind = joined_rest all more.0 done (take (place + 1) (word ++ tail) ++ more.1) marked spelled in
-      broken behind.0 more.1 behind.2 (omega (arith, length-append done (word ++ tail))) ends;
+        let behind = joined_rest all more.0 done (take (place + 1) (word ++ tail) ++ more.1) marked spelled in
+        broken behind.0 more.1 behind.2 (omega (arith, length-append done (word ++ tail))) ends;
   } where
     none : (list : List A) → Joined Spells mark list (done ++ (word ++ tail)) → (tail ≡ []) ⊎ ((after : List ℕ) × (tail ≡ mark ∷ after)) → ⊥
     none list spelled (inl nothing) =
@@ -157,21 +157,22 @@ module _ {A : Type 0} (Spells : A → List ℕ → Type 0) (mark : ℕ) (markabl
         let behind = joined_rest all list done (word ++ tail) marked spelled in
         let first = joined_first behind.0 word after lacks (subst (λ t. Joined Spells mark behind.0 (word ++ t)) is behind.2) in
         fails.none first.0 first.1
+
     broken : (list : List A) (more : List ℕ) → Joined Spells mark list (take (place + 1) (word ++ tail) ++ more) → place < length (word ++ tail)
         → (tail ≡ []) ⊎ ((after : List ℕ) × (tail ≡ mark ∷ after)) → ⊥
     broken list more spelled lt ends = elim (cases_lt place (length word)) [
-        | inl inside ↦
+      | inl inside ↦
           let front : take (place + 1) (word ++ tail) ≡ take (place + 1) word = take-append-le (place + 1) word tail (omega arith) in
           fails.broken inside (joined_begins list (take (place + 1) word) more (Lacks-take mark (place + 1) word lacks) (subst (λ t. Joined Spells mark list (t ++ more)) front spelled))
-        | inr outside ↦ past outside ends
-      ] where
+      | inr outside ↦ past outside ends
+    ] where
       past : length word ≤ place → (tail ≡ []) ⊎ ((after : List ℕ) × (tail ≡ mark ∷ after)) → ⊥
       past outside (inl nothing) = omega (arith, length-append word tail, ap length nothing)
       past outside (inr (after, is)) =
           let within = fails.within in
           let at_end : place ≡ length word = omega arith in
           let cut : take (place + 1) (word ++ tail) ≡ word ++ mark ∷ [] =
-            ap (λ n. take (n + 1) (word ++ tail)) at_end ∙ ap (λ t. take (length word + 1) (word ++ t)) is ∙ take-append-add word (mark ∷ after) 1 in
+          ap (λ n. take (n + 1) (word ++ tail)) at_end ∙ ap (λ t. take (length word + 1) (word ++ t)) is ∙ take-append-add word (mark ∷ after) 1 in
           let first = joined_first list word more lacks (subst (Joined Spells mark list) (ap (λ t. t ++ more) cut ∙ append_assoc word (mark ∷ []) more) spelled) in
           fails.none first.0 first.1
 
@@ -183,21 +184,22 @@ module _ {A : Type 0} (Spells : A → List ℕ → Type 0) (mark : ℕ) (markabl
     none = λ list whole. none list after whole.0 (subst (Joined Spells mark list) (parts after) whole.1);
     within = omega (arith, length-append done (front ++ mark ∷ after), length-append front (mark ∷ after));
     begun = rw (take-append-add done (front ++ mark ∷ after) (length front), take_at front (mark ∷ after) (length front) refl)
-      (all ++ value ∷ [], [], (may, subst (Joined Spells mark (all ++ value ∷ [])) (sym (append-nil (done ++ front))) (joined_end Spells mark all value done front marked spelled)));
+        (all ++ value ∷ [], [], (may, subst (Joined Spells mark (all ++ value ∷ [])) (sym (append-nil (done ++ front))) (joined_end Spells mark all value done front marked spelled)));
     broken = λ lt more.
-      let cut : take (length done + length front + 1) (done ++ (front ++ mark ∷ after)) ≡ done ++ (front ++ mark ∷ []) =
+        let cut : take (length done + length front + 1) (done ++ (front ++ mark ∷ after)) ≡ done ++ (front ++ mark ∷ []) =
         ap (λ n. take n (done ++ (front ++ mark ∷ after))) (omega arith) ∙ take-append-add done (front ++ mark ∷ after) (length front + 1) ∙ ap (λ t. done ++ t) (take-append-add front (mark ∷ after) 1) in
-      none more.0 more.1 more.2.0 (subst (λ t. Joined Spells mark more.0 (t ++ more.1)) cut more.2.1);
+        none more.0 more.1 more.2.0 (subst (λ t. Joined Spells mark more.0 (t ++ more.1)) cut more.2.1);
   } where
     parts : (rest : List ℕ) → done ++ (front ++ mark ∷ rest) ≡ (done ++ (front ++ mark ∷ [])) ++ rest
     parts rest = simp append_assoc
+
     none : (list : List A) (rest : List ℕ) → May list → Joined Spells mark list ((done ++ (front ++ mark ∷ [])) ++ rest) → ⊥
     none list rest allowed whole =
         let behind = joined_rest (all ++ value ∷ []) list (done ++ (front ++ mark ∷ [])) rest (marked_more Spells mark all value done front marked spelled) whole in
         more behind.0 behind.2 (subst May behind.1 allowed) where
-      more : (others : List A) → Joined Spells mark others rest → May ((all ++ value ∷ []) ++ others) → ⊥
-      more [] spelled allowed = spelled
-      more (next ∷ others) spelled allowed = full next others allowed
+          more : (others : List A) → Joined Spells mark others rest → May ((all ++ value ∷ []) ++ others) → ⊥
+          more [] spelled allowed = spelled
+          more (next ∷ others) spelled allowed = full next others allowed
 
   -- the same, of all the text, where the word was cut off
   pub fails_cut : (May : List A → Type 0) (all : List A) (done rest text word : List ℕ) (after : Option (Bor (List ℕ))) (place : ℕ) → ((value : A) → May (all ++ value ∷ []))
@@ -208,11 +210,11 @@ module _ {A : Type 0} (Spells : A → List ℕ → Type 0) (mark : ℕ) (markabl
       let whole : text ≡ done ++ (word ++ cut.0) = parts ∙ ap (λ t. done ++ t) cut.1 in
       let before : length text - length rest ≡ length done = omega (arith, ap length parts, length-append done rest) in
       subst (λ n. FailsAt (Among May (Joined Spells mark)) text (n + place)) (sym before)
-        (subst (λ t. FailsAt (Among May (Joined Spells mark)) t (length done + place)) (sym whole) (fails_joined May all done word cut.0 place may marked lacks cut.2 fails)) where
-    tail : (after : Option (Bor (List ℕ))) → MatchOption after (rest ≡ word) (λ others. rest ≡ word ++ mark ∷ others.now)
-        → (behind : List ℕ) × (rest ≡ word ++ behind) × ((behind ≡ []) ⊎ ((others : List ℕ) × (behind ≡ mark ∷ others)))
-    tail None is = ([], is ∙ sym (append-nil word), inl refl)
-    tail (Some others) is = (mark ∷ others.now, is, inr (others.now, refl))
+      (subst (λ t. FailsAt (Among May (Joined Spells mark)) t (length done + place)) (sym whole) (fails_joined May all done word cut.0 place may marked lacks cut.2 fails)) where
+        tail : (after : Option (Bor (List ℕ))) → MatchOption after (rest ≡ word) (λ others. rest ≡ word ++ mark ∷ others.now)
+            → (behind : List ℕ) × (rest ≡ word ++ behind) × ((behind ≡ []) ⊎ ((others : List ℕ) × (behind ≡ mark ∷ others)))
+        tail None is = ([], is ∙ sym (append-nil word), inl refl)
+        tail (Some others) is = (mark ∷ others.now, is, inr (others.now, refl))
 
   pub fails_full_cut : (May : List A → Type 0) (all : List A) (done rest text word others : List ℕ) (value : A) → Marked Spells mark all done → text ≡ done ++ rest
       → rest ≡ word ++ mark ∷ others → Spells value word → May (all ++ value ∷ []) → ((more : A) (others : List A) → May ((all ++ value ∷ []) ++ more ∷ others) → ⊥)
@@ -221,11 +223,13 @@ module _ {A : Type 0} (Spells : A → List ℕ → Type 0) (mark : ℕ) (markabl
       let whole : text ≡ done ++ (word ++ mark ∷ others) = parts ∙ ap (λ t. done ++ t) cut in
       let before : length text - length rest ≡ length done = omega (arith, ap length parts, length-append done rest) in
       subst (λ n. FailsAt (Among May (Joined Spells mark)) text (n + length word)) (sym before)
-        (subst (λ t. FailsAt (Among May (Joined Spells mark)) t (length done + length word)) (sym whole) (fails_full May all done word others value marked spelled may full))
+      (subst (λ t. FailsAt (Among May (Joined Spells mark)) t (length done + length word)) (sym whole) (fails_full May all done word others value marked spelled may full))
 
   -- the text before the rest, with a word more
   pub marked_cut : (all : List A) (done rest text word others : List ℕ) (value : A) → Marked Spells mark all done → text ≡ done ++ rest → rest ≡ word ++ mark ∷ others → Spells value word
       → (done' : List ℕ) × Marked Spells mark (all ++ value ∷ []) done' × (text ≡ done' ++ others)
-  marked_cut all done rest text word others value marked parts cut spelled =
-      (done ++ (word ++ mark ∷ []), marked_more Spells mark all value done word marked spelled,
-        parts ∙ ap (λ t. done ++ t) (cut ∙ sym (append_assoc word (mark ∷ []) others)) ∙ sym (append_assoc done (word ++ mark ∷ []) others))
+  marked_cut all done rest text word others value marked parts cut spelled = (
+    done ++ (word ++ mark ∷ []),
+    marked_more Spells mark all value done word marked spelled,
+    parts ∙ ap (λ t. done ++ t) (cut ∙ sym (append_assoc word (mark ∷ []) others)) ∙ sym (append_assoc done (word ++ mark ∷ []) others),
+  )

@@ -1,6 +1,6 @@
 -- A number in groups, from its first group on.
-use Rattle.std.proofs.Common.{◌≡◌, ℕ, ◌+◌, ◌*◌, ◌-◌, ◌/◌, ◌<◌, ◌≤◌, List, [], ◌∷◌, ◌++◌, length, refl, sym, ap, subst, ◌∙◌, arith}
-use Rattle.pt_wire.specs.Spelling.{Begins, FailsAt, Splits, StartsWith}
+use Rattle.std.proofs.Common.{◌≡◌, ℕ, ◌+◌, ◌*◌, ◌-◌, ◌/◌, ◌<◌, ◌≤◌, List, [], ◌∷◌, ◌++◌, refl, sym, ap, ◌∙◌, arith}
+use Rattle.pt_wire.specs.Spelling.{Begins, FailsAt, StartsWith}
 use Rattle.pt_wire.specs.Leb128.{IsLeb128, IsLeb128Within}
 use Rattle.pt_wire.proofs.Failing.{fails_at_end, fails_here, fails_behind, starts_behind, starts_with_byte, begins_spelled}
 
@@ -69,8 +69,8 @@ groups_behind least most low place others small last room =
     let Inner = IsLeb128Within 1 ((most - low) / 128) in
     let Outer = IsLeb128Within least most in
     fails_behind (StartsWith Inner) (StartsWith Outer) (128 + low) others place (λ high. low + 128 * high)
-      (starts_behind Inner Outer (128 + low) (λ high. low + 128 * high) (λ high rest h. group_within least most low high rest small last h room))
-      (starts_with_byte Inner Outer (128 + low) (groups_empty least most) (λ number rest h. let b = group_behind least most low number rest h in (b.0, b.1)))
+    (starts_behind Inner Outer (128 + low) (λ high. low + 128 * high) (λ high rest h. group_within least most low high rest small last h room))
+    (starts_with_byte Inner Outer (128 + low) (groups_empty least most) (λ number rest h. let b = group_behind least most low number rest h in (b.0, b.1)))
 
 -- no spelling of a number begins another
 pub one_number : (m n : ℕ) (f g x y : List ℕ) → IsLeb128 m f → IsLeb128 n g → f ++ x ≡ g ++ y → (m ≡ n) × (f ≡ g)

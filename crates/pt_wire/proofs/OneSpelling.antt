@@ -1,10 +1,10 @@
 -- A value has at most one spelling.
-use Rattle.std.proofs.Common.{◌≡◌, ℕ, ◌+◌, ◌*◌, ◌<◌, ◌≤◌, Bool, true, false, List, [], ◌∷◌, ◌++◌, length, refl, sym, ap, subst, ◌∙◌, arith}
+use Rattle.std.proofs.Common.{◌≡◌, ℕ, Bool, true, false, List, [], ◌∷◌, ◌++◌, sym, ap, subst, ◌∙◌, arith}
 use Rattle.pt_choice.specs.declared.choice.Choice.{Choice}
 use Rattle.pt_choice.specs.declared.choice.Choice.TheVariants as choice
 use Rattle.pt_wire.specs.Leb128.{IsLeb128}
 use Rattle.pt_wire.specs.Spelling.{Chained, Joined}
-use Rattle.pt_wire.specs.Stored.{zigzag, IsCounted, StoredChoice}
+use Rattle.pt_wire.specs.Stored.{zigzag, StoredChoice}
 use Rattle.pt_wire.specs.Printed.{PrintedBool, PrintedByte, PrintedNumber, PrintedPlaces, PrintedChoice, Printed}
 
 one_chained : {A : Type 0} (Spells : A → List ℕ → Type 0) → ((value : A) (f g : List ℕ) → Spells value f → Spells value g → f ≡ g)

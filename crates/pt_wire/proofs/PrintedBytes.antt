@@ -1,8 +1,8 @@
 -- Bytes as two hexadecimal digits.
-use Rattle.std.proofs.Common.{◌≡◌, ℕ, ◌+◌, ◌*◌, ◌-◌, ◌/◌, ◌%◌, ◌<◌, ◌≤◌, Bool, true, false, List, [], ◌∷◌, ◌++◌, length, refl, sym, ap, subst, ◌∙◌, arith}
+use Rattle.std.proofs.Common.{◌≡◌, ℕ, ◌+◌, ◌*◌, ◌/◌, ◌%◌, ◌<◌, false, List, [], ◌∷◌, ◌++◌, refl, sym, ap, ◌∙◌, arith}
 use Rattle.std.specs.Fmt.{digit_glyph}
 use Rattle.std.proofs.lemmas.Bool.Decides.{nat_tests}
-use Rattle.pt_wire.specs.Spelling.{Begins, Chained, FailsAt, StartsWith}
+use Rattle.pt_wire.specs.Spelling.{Begins, FailsAt, StartsWith}
 use Rattle.pt_wire.specs.Printed.{PrintedByte}
 use Rattle.pt_wire.proofs.Chains.{IsPrefixFree}
 use Rattle.pt_wire.proofs.Failing.{fails_at_end, fails_here, fails_behind, starts_behind, starts_with_byte, begins_spelled}
@@ -54,17 +54,18 @@ last_begun = begins_spelled LastDigit 0 (48 ∷ []) (refl, omega arith)
 last_behind : (high first : ℕ) (others : List ℕ) → high < 16 → digit_glyph false high ≡ first → FailsAt (StartsWith LastDigit) others 0 → FailsAt (StartsWith PrintedByte) (first ∷ others) 1
 last_behind high first others small is =
     fails_behind (StartsWith LastDigit) (StartsWith PrintedByte) first others 0 (λ low. 16 * high + low)
-      (starts_behind LastDigit PrintedByte first (λ low. 16 * high + low) to)
-      (starts_with_byte LastDigit PrintedByte first byte_empty from) where
-  to : (low : ℕ) (rest : List ℕ) → LastDigit low rest → PrintedByte (16 * high + low) (first ∷ rest)
-  to low rest (text, below) =
-      let front : (16 * high + low) / 16 ≡ high = omega arith in
-      let last : (16 * high + low) % 16 ≡ low = omega arith in
-      (rw (front, last, text, is) refl, omega arith)
-  from : (byte : ℕ) (rest : List ℕ) → PrintedByte byte (first ∷ rest) → (low : ℕ) × LastDigit low rest
-  from byte rest (text, below) =
-      let last : rest ≡ digit_glyph false (byte % 16) ∷ [] = cc in
-      (byte % 16, (last, omega arith))
+    (starts_behind LastDigit PrintedByte first (λ low. 16 * high + low) to)
+    (starts_with_byte LastDigit PrintedByte first byte_empty from) where
+      to : (low : ℕ) (rest : List ℕ) → LastDigit low rest → PrintedByte (16 * high + low) (first ∷ rest)
+      to low rest (text, below) =
+          let front : (16 * high + low) / 16 ≡ high = omega arith in
+          let last : (16 * high + low) % 16 ≡ low = omega arith in
+          (rw (front, last, text, is) refl, omega arith)
+
+      from : (byte : ℕ) (rest : List ℕ) → PrintedByte byte (first ∷ rest) → (low : ℕ) × LastDigit low rest
+      from byte rest (text, below) =
+          let last : rest ≡ digit_glyph false (byte % 16) ∷ [] = cc in
+          (byte % 16, (last, omega arith))
 
 -- no second digit
 pub second_digit_missing : (high first : ℕ) → high < 16 → digit_glyph false high ≡ first → FailsAt (StartsWith PrintedByte) (first ∷ []) 1

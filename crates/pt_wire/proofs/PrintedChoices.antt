@@ -1,7 +1,6 @@
 -- Printed choices, behind the letters of their sorts, and lists of them.
-use Rattle.std.proofs.Common.{◌≡◌, ◌≢◌, ℕ, zero, suc, ◌+◌, ◌-◌, ◌/◌, ◌%◌, ◌^◌, ◌<◌, ◌≤◌, Bool, true, false, ℤ, pos, negsuc, unsigned_abs, List, [], ◌∷◌, ◌++◌, length, take, refl, sym, ap, subst, ◌∙◌, append_assoc, inl, inr, arith, add-one, length-append}
-use Rattle.std.specs.List.{AllByRecursion}
-use Rattle.std.specs.Fmt.{decimal, digit_glyph, signed_decimal}
+use Rattle.std.proofs.Common.{◌≡◌, ◌≢◌, ℕ, suc, ◌+◌, ◌/◌, ◌%◌, ◌<◌, ◌≤◌, Bool, true, false, ℤ, pos, negsuc, List, [], ◌∷◌, ◌++◌, length, refl, sym, ap, subst, ◌∙◌, arith, length-append}
+use Rattle.std.specs.Fmt.{decimal, digit_glyph}
 use Rattle.std.proofs.lemmas.Bool.Decides.{nat_tests}
 use Rattle.std.proofs.lemmas.Fmt.{decimal_injective, decimal_nonempty}
 use Rattle.pt_choice.specs.declared.choice.Choice.{Choice}
@@ -89,7 +88,7 @@ bytes_lack (byte ∷ bytes) text (front, rest, (glyphs, small), more, parts) =
     let high = glyph_high (byte / 16) in
     let low = glyph_high (byte % 16) in
     subst (Lacks 32) (sym parts)
-      (Lacks-append 32 front rest (subst (Lacks 32) (sym glyphs) ((λ e. omega arith), ((λ e. omega arith), tt))) (bytes_lack bytes rest more))
+    (Lacks-append 32 front rest (subst (Lacks 32) (sym glyphs) ((λ e. omega arith), ((λ e. omega arith), tt))) (bytes_lack bytes rest more))
 
 places_lack : (list text : List ℕ) → Joined (PrintedNumber 255) 46 list text → Lacks 32 text
 places_lack [] text joined = absurd joined

@@ -1,11 +1,11 @@
 -- Printed lists of choices, the empty one beside the others.
-use Rattle.std.proofs.Common.{◌≡◌, ℕ, ◌+◌, ◌<◌, ◌≤◌, List, [], ◌∷◌, ◌++◌, length, take, Result, Ok, Err, refl, sym, ap, subst, ◌∙◌, arith, add-one}
+use Rattle.std.proofs.Common.{◌≡◌, ℕ, ◌<◌, List, [], ◌∷◌, ◌++◌, length, take, Result, Ok, Err, refl, sym, subst, arith, add-one}
 use Rattle.pt_choice.specs.declared.choice.Choice.{Choice}
 use Rattle.pt_wire.specs.declared.fault.WireFault.{WireFault}
 use Rattle.pt_wire.specs.declared.fault.WireFault.TheVariants as fault
 use Rattle.pt_wire.specs.Answer.{Reads}
 use Rattle.pt_wire.specs.Printed.{PrintedChoice, Printed}
-use Rattle.pt_wire.specs.Spelling.{Begins, FailsAt, Joined}
+use Rattle.pt_wire.specs.Spelling.{FailsAt, Joined}
 use Rattle.pt_wire.proofs.Failing.{fails_at_end, same_head}
 use Rattle.pt_wire.proofs.JoinedTexts.{one_joined, joined_last, joined_begins}
 use Rattle.pt_wire.proofs.PrintedChoices.{choices_markable, choice_empty, no_minus}
@@ -29,9 +29,9 @@ printed_reads first others (Err (fault.NotSpelling place)) plain fails = record 
   within = fails.within;
   begun = (fails.begun.0, fails.begun.1, joined_printed fails.begun.0 (take place (first ∷ others) ++ fails.begun.1) fails.begun.2);
   broken = λ lt more.
-    let printed : Printed more.0 (first ∷ (take place others ++ more.1)) = rw (add-one place) at more.2 in
-    let joined = printed_joined first (take place others ++ more.1) more.0 plain printed in
-    fails.broken lt (more.0, more.1, subst (λ n. Joined PrintedChoice 32 more.0 (take n (first ∷ others) ++ more.1)) (sym (add-one place)) joined);
+      let printed : Printed more.0 (first ∷ (take place others ++ more.1)) = rw (add-one place) at more.2 in
+      let joined = printed_joined first (take place others ++ more.1) more.0 plain printed in
+      fails.broken lt (more.0, more.1, subst (λ n. Joined PrintedChoice 32 more.0 (take n (first ∷ others) ++ more.1)) (sym (add-one place)) joined);
 }
 printed_reads first others (Err fault.NoMemory) plain free = tt
 

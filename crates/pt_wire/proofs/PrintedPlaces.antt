@@ -43,6 +43,7 @@ places_fail first others place fails = record {
   none : (list : List ℕ) → Among IsFew PrintedPlaces list (first ∷ others) → ⊥
   none [] (few, text) = absurd cc
   none (place ∷ places) h = fails.none (place ∷ places) h
+
   broken : place < length (first ∷ others) → (list more : List ℕ) → Among IsFew PrintedPlaces list (take (place + 1) (first ∷ others) ++ more) → ⊥
   broken lt [] more (few, text) = let cells : first ∷ (take place others ++ more) ≡ [] = rw (add-one place) at text in absurd cc
   broken lt (p ∷ places) more h = fails.broken lt (p ∷ places, more, h)

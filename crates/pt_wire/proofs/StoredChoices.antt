@@ -1,5 +1,5 @@
 -- A stored choice, behind the byte of its sort.
-use Rattle.std.proofs.Common.{◌≡◌, ℕ, zero, suc, ◌+◌, ◌*◌, ◌-◌, ◌/◌, ◌%◌, ◌^◌, ◌<◌, ◌≤◌, Bool, true, false, ℤ, pos, negsuc, unsigned_abs, List, [], ◌∷◌, ◌++◌, length, take, drop, replicate, refl, sym, ap, subst, ◌∙◌, inl, inr, arith, length-append}
+use Rattle.std.proofs.Common.{◌≡◌, ℕ, ◌+◌, ◌-◌, ◌/◌, ◌%◌, ◌^◌, ◌<◌, ◌≤◌, true, false, ℤ, pos, negsuc, unsigned_abs, List, [], ◌∷◌, ◌++◌, length, take, drop, replicate, refl, sym, ap, subst, ◌∙◌, inl, inr, arith, length-append}
 use Rattle.std.specs.List.{AllByRecursion}
 use Rattle.std.proofs.lemmas.Bool.{cases_lt}
 use Rattle.std.proofs.lemmas.List.{append-nil, length-replicate, take_all, take_at, take-append-drop, length-take}
@@ -8,8 +8,8 @@ use Rattle.pt_choice.specs.declared.choice.Choice.TheVariants as choice
 use Rattle.pt_wire.specs.Spelling.{Begins, FailsAt, Splits, StartsWith}
 use Rattle.pt_wire.specs.Leb128.{IsLeb128, IsLeb128Within}
 use Rattle.pt_wire.proofs.Leb128Groups.{one_number}
-use Rattle.pt_wire.specs.Stored.{zigzag, IsShort, IsCounted, StoredChoice}
-use Rattle.pt_wire.proofs.Bytes.{are_bytes, bytes_then_zeros, bytes-take}
+use Rattle.pt_wire.specs.Stored.{zigzag, IsCounted, StoredChoice}
+use Rattle.pt_wire.proofs.Bytes.{bytes_then_zeros, bytes-take}
 use Rattle.pt_wire.proofs.Chains.{IsPrefixFree}
 use Rattle.pt_wire.proofs.Failing.{fails_at_end, fails_here, fails_behind, starts_behind, starts_with_byte, begins_spelled}
 
@@ -52,9 +52,9 @@ unknown_sort byte bytes great = fails_here (StartsWith StoredChoice) byte bytes 
 -- each number stands for an integer
 integer_of : (number : ℕ) → (value : ℤ) × (zigzag value ≡ number) × (number ≤ 2 ^ 65 - 2 → unsigned_abs value < 2 ^ 64)
 integer_of number = elim (cases_lt 0 (number % 2)) [
-    | inl odd ↦ (negsuc (number / 2), omega arith, λ small. omega arith)
-    | inr even ↦ (pos (number / 2), omega arith, λ small. omega arith)
-  ]
+  | inl odd ↦ (negsuc (number / 2), omega arith, λ small. omega arith)
+  | inr even ↦ (pos (number / 2), omega arith, λ small. omega arith)
+]
 
 -- the number of an integer of small magnitude
 number_small : (value : ℤ) → unsigned_abs value < 2 ^ 64 → zigzag value ≤ 2 ^ 65 - 2
@@ -82,34 +82,34 @@ pub integer_behind : (bytes : List ℕ) (place : ℕ) → FailsAt (StartsWith Nu
 integer_behind bytes place =
     let out : ℕ → Choice = λ number. choice.Int (integer_of number).0 in
     fails_behind (StartsWith Number) (StartsWith StoredChoice) 2 bytes place out
-      (starts_behind Number StoredChoice 2 out to_integer)
-      (starts_with_byte Number StoredChoice 2 choice_empty from_integer)
+    (starts_behind Number StoredChoice 2 out to_integer)
+    (starts_with_byte Number StoredChoice 2 choice_empty from_integer)
 
 -- ---- bytes and places
 
 pub bytes_behind : (bytes : List ℕ) (place : ℕ) → FailsAt (StartsWith IsCounted) bytes place → FailsAt (StartsWith StoredChoice) (3 ∷ bytes) (place + 1)
 bytes_behind bytes place =
     fails_behind (StartsWith IsCounted) (StartsWith StoredChoice) 3 bytes place choice.Bytes
-      (starts_behind IsCounted StoredChoice 3 choice.Bytes (λ items rest counted. (rest, refl, counted)))
-      (starts_with_byte IsCounted StoredChoice 3 choice_empty from) where
-  from : (c : Choice) (rest : List ℕ) → StoredChoice c (3 ∷ rest) → (items : List ℕ) × IsCounted items rest
-  from (choice.Bool false) rest h = absurd cc
-  from (choice.Bool true) rest h = absurd cc
-  from (choice.Int value) rest (held, parts, spelled, small) = absurd cc
-  from (choice.Bytes items) rest (held, parts, counted) = let same : held ≡ rest = cc in (items, subst (IsCounted items) same counted)
-  from (choice.Text places) rest (held, parts, counted) = absurd cc
+    (starts_behind IsCounted StoredChoice 3 choice.Bytes (λ items rest counted. (rest, refl, counted)))
+    (starts_with_byte IsCounted StoredChoice 3 choice_empty from) where
+      from : (c : Choice) (rest : List ℕ) → StoredChoice c (3 ∷ rest) → (items : List ℕ) × IsCounted items rest
+      from (choice.Bool false) rest h = absurd cc
+      from (choice.Bool true) rest h = absurd cc
+      from (choice.Int value) rest (held, parts, spelled, small) = absurd cc
+      from (choice.Bytes items) rest (held, parts, counted) = let same : held ≡ rest = cc in (items, subst (IsCounted items) same counted)
+      from (choice.Text places) rest (held, parts, counted) = absurd cc
 
 pub places_behind : (bytes : List ℕ) (place : ℕ) → FailsAt (StartsWith IsCounted) bytes place → FailsAt (StartsWith StoredChoice) (4 ∷ bytes) (place + 1)
 places_behind bytes place =
     fails_behind (StartsWith IsCounted) (StartsWith StoredChoice) 4 bytes place choice.Text
-      (starts_behind IsCounted StoredChoice 4 choice.Text (λ items rest counted. (rest, refl, counted)))
-      (starts_with_byte IsCounted StoredChoice 4 choice_empty from) where
-  from : (c : Choice) (rest : List ℕ) → StoredChoice c (4 ∷ rest) → (items : List ℕ) × IsCounted items rest
-  from (choice.Bool false) rest h = absurd cc
-  from (choice.Bool true) rest h = absurd cc
-  from (choice.Int value) rest (held, parts, spelled, small) = absurd cc
-  from (choice.Bytes items) rest (held, parts, counted) = absurd cc
-  from (choice.Text places) rest (held, parts, counted) = let same : held ≡ rest = cc in (places, subst (IsCounted places) same counted)
+    (starts_behind IsCounted StoredChoice 4 choice.Text (λ items rest counted. (rest, refl, counted)))
+    (starts_with_byte IsCounted StoredChoice 4 choice_empty from) where
+      from : (c : Choice) (rest : List ℕ) → StoredChoice c (4 ∷ rest) → (items : List ℕ) × IsCounted items rest
+      from (choice.Bool false) rest h = absurd cc
+      from (choice.Bool true) rest h = absurd cc
+      from (choice.Int value) rest (held, parts, spelled, small) = absurd cc
+      from (choice.Bytes items) rest (held, parts, counted) = absurd cc
+      from (choice.Text places) rest (held, parts, counted) = let same : held ≡ rest = cc in (places, subst (IsCounted places) same counted)
 
 -- ---- a count and so many bytes
 
@@ -142,10 +142,10 @@ counted_short count bytes few short each = record {
   none = λ items h. let long = counted_long count items bytes h in omega arith;
   within = omega arith;
   begun =
-    let missing = replicate (count - length bytes) 0 in
-    let items = bytes ++ missing in
-    let counts : length items ≡ count = omega (arith, length-append bytes missing, length-replicate {A = ℕ} (count - length bytes) 0) in
-    rw (take_all (length bytes) bytes (omega arith)) (items, missing, ([], (count ∷ items, (ap (λ n. n ∷ items) (sym counts), (omega arith, bytes_then_zeros (count - length bytes) bytes each)), sym (append-nil (count ∷ items)))));
+      let missing = replicate (count - length bytes) 0 in
+      let items = bytes ++ missing in
+      let counts : length items ≡ count = omega (arith, length-append bytes missing, length-replicate {A = ℕ} (count - length bytes) 0) in
+      rw (take_all (length bytes) bytes (omega arith)) (items, missing, ([], (count ∷ items, (ap (λ n. n ∷ items) (sym counts), (omega arith, bytes_then_zeros (count - length bytes) bytes each)), sym (append-nil (count ∷ items)))));
   broken = λ lt. absurd (omega arith);
 }
 

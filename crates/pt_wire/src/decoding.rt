@@ -5,8 +5,8 @@ ghost use Rattle.pt_wire.specs.Limits.{IsWritable};
 ghost use Rattle.pt_wire.specs.Spelling.{FailsAt, Splits, StartsWith};
 ghost use Rattle.pt_wire.specs.Stored.{IsCounted, Stored, StoredChoice, zigzag};
 
-use crate::fault::Stop;
 use crate::WireFault;
+use crate::fault::Stop;
 use crate::gathered::{all_gathered, gather, none_gathered};
 use crate::groups::read_groups;
 use pt_choice::{Choice, Choices, Octets};

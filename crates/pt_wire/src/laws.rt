@@ -14,22 +14,19 @@ ghost use Rattle.pt_wire.specs.Stored.{Stored};
 pub fn one_spelling()
     ensures stored { (list : List Choice) (bytes others : List ℕ) → Stored list bytes → Stored list others → bytes ≡ others }
     ensures printed { (list : List Choice) (text other : List ℕ) → Printed list text → Printed list other → text ≡ other }
-{
-}
+{}
 
 /// Bytes spell at most one list, and so does a text.
 pub fn one_list()
     ensures stored { (list other : List Choice) (bytes : List ℕ) → Stored list bytes → Stored other bytes → list ≡ other }
     ensures printed { (list other : List Choice) (text : List ℕ) → Printed list text → Printed other text → list ≡ other }
-{
-}
+{}
 
 /// An input fails at one place at most.
 pub fn one_place()
     ensures stored { (bytes : List ℕ) (place other : ℕ) → FailsAt Stored bytes place → FailsAt Stored bytes other → place ≡ other }
     ensures printed { (text : List ℕ) (place other : ℕ) → FailsAt Printed text place → FailsAt Printed text other → place ≡ other }
-{
-}
+{}
 
 /// What was written is read again: of a spelling of a list that may be written, a reader answers that list, unless
 /// memory runs out.
@@ -38,5 +35,4 @@ pub fn read_again()
         → Stored list bytes → Reads Stored bytes answer → (answer ≡ Ok list) ⊎ (answer ≡ Err fault.NoMemory) }
     ensures printed { (list : List Choice) (text : List ℕ) (answer : Result (List Choice) WireFault) → IsWritable list
         → Printed list text → Reads Printed text answer → (answer ≡ Ok list) ⊎ (answer ≡ Err fault.NoMemory) }
-{
-}
+{}

@@ -10,11 +10,11 @@ mod fault;
 mod gathered;
 mod groups;
 mod laws;
+mod mark;
 mod number;
 mod printing;
 mod reading;
 mod word;
-mod mark;
 
 pub use decoding::decode;
 pub use encoding::encode;

@@ -8,8 +8,8 @@ ghost use Rattle.pt_wire.specs.Spelling.{Joined};
 use crate::WireFault;
 use crate::fault::Stop;
 use crate::gathered::{all_gathered, gather, none_gathered};
-use crate::word::read_word;
 use crate::mark::cut;
+use crate::word::read_word;
 use pt_choice::{Choice, Choices};
 use std::alloc::Global;
 

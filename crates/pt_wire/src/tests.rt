@@ -130,7 +130,10 @@ fn long_inputs_are_read_or_refused(rt: HostRuntime) -> Result<(), Fail> {
     assert_eq!(rt; read_choices(rt.alloc(), &text)?.len(), 256);
     text.extend_from_slice(b" bf")?;
     assert!(rt; text.len() < 1000);
-    assert_eq!(rt; read_choices(rt.alloc(), &text).err(), Some(WireFault::TooLong));
+    assert_eq!(rt;
+        read_choices(rt.alloc(), &text).err(),
+        Some(WireFault::TooLong)
+    );
     text.extend_from_slice(b" q")?;
     assert!(rt; text.len() < 1000);
     let fault = read_choices(rt.alloc(), &text).err();

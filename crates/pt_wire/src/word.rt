@@ -5,8 +5,8 @@ ghost use Rattle.pt_wire.specs.Printed.{IsFew, PrintedBool, PrintedByte, Printed
 ghost use Rattle.pt_wire.specs.Spelling.{Among, Chained, FailsAt, Splits, StartsWith};
 
 use crate::fault::Stop;
-use crate::number::read_number;
 use crate::mark::cut;
+use crate::number::read_number;
 use pt_choice::{Choice, Octets};
 use std::alloc::Global;
 

@@ -1,8 +1,8 @@
-use Rattle.std.proofs.Common.{◌≡◌, ◌≢◌, ℕ, ◌+◌, ◌-◌, [], ◌∷◌, ◌++◌, length, drop, sym, ap, ◌∙◌, append_assoc, arith, length-append, rules}
+use Rattle.std.proofs.Common.{◌≡◌, ◌≢◌, ◌+◌, ◌-◌, [], ◌∷◌, ◌++◌, length, sym, ap, ◌∙◌, append_assoc, arith}
 use Rattle.std.proofs.lemmas.Bool.{eqb-true, eqb-false}
 use Rattle.std.proofs.lemmas.List.{append-nil, nil_from_length}
 use Rattle.pt_wire.specs.Answer.{Reads}
-use Rattle.pt_wire.specs.Spelling.{FailsAt, StartsWith}
+use Rattle.pt_wire.specs.Spelling.{FailsAt}
 use Rattle.pt_wire.specs.Stored.{Stored, StoredChoice}
 use Rattle.pt_wire.proofs.Answers.{answer_for, answer_writable, reads_gathered}
 use Rattle.pt_wire.proofs.Chains.{chained_more, fails_within, fails_anyway, one_chain}
@@ -14,9 +14,13 @@ use Rattle.pt_wire.proofs.decoding.decode.Goals.{After-all_gathered, In-Err-At}
 pub loop-rest-preserved : goal.loop-rest-preserved
 loop-rest-preserved c =
     let i = c.loop-rest.invariant in
-    let found = c.in-Ok.ensures.ok in
-    (i.0 ++ c.in-Ok.choice ∷ [], i.1 ++ found.0, chained_more StoredChoice i.0 c.in-Ok.choice i.1 found.0 i.2 found.1, c.in_ok-gather-in-Ok.ensures i.0 i.3,
-      i.4 ∙ ap (λ t. i.1 ++ t) found.2 ∙ sym (append_assoc i.1 found.0 c.in-Ok.after.now))
+    let found = c.in-Ok.ensures.ok in (
+      i.0 ++ c.in-Ok.choice ∷ [],
+      i.1 ++ found.0,
+      chained_more StoredChoice i.0 c.in-Ok.choice i.1 found.0 i.2 found.1,
+      c.in_ok-gather-in-Ok.ensures i.0 i.3,
+      i.4 ∙ ap (λ t. i.1 ++ t) found.2 ∙ sym (append_assoc i.1 found.0 c.in-Ok.after.now),
+    )
 
 fails : (c : In-Err-At) → FailsAt Stored c.args.bytes.now (length c.args.bytes.now - length c.loop-rest.rest.now + c.in-Err-At.place)
 fails c =

@@ -1,4 +1,4 @@
-use Rattle.std.proofs.Common.{◌≡◌, ◌∷◌, ◌++◌, sym, arith}
+use Rattle.std.proofs.Common.{arith}
 use Rattle.std.proofs.lemmas.List.{take_more}
 use Rattle.pt_wire.specs.Stored.{StoredChoice}
 use Rattle.pt_wire.proofs.Chains.{chained_more}
@@ -9,4 +9,4 @@ loop-choice-preserved c =
     let items = c.as_slice-choice-items.result.now in
     let written = c.in_ok-push_choice.ensures in
     rw (take_more items c.loop-choice.choice-index c.choice-item.result (omega arith), ← c.choice-item.is, written.2)
-      (chained_more StoredChoice _ _ _ _ c.loop-choice.invariant written.1)
+    (chained_more StoredChoice _ _ _ _ c.loop-choice.invariant written.1)

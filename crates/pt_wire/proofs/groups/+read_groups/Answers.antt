@@ -1,4 +1,4 @@
-use Rattle.std.proofs.Common.{◌≡◌, ℕ, ◌+◌, ◌-◌, ◌*◌, ◌<◌, ◌≤◌, [], ◌∷◌, ◌++◌, length, refl, ap, ◌∙◌, arith}
+use Rattle.std.proofs.Common.{◌≡◌, ◌+◌, ◌-◌, ◌<◌, ◌≤◌, [], ◌∷◌, refl, ◌∙◌, arith}
 use Rattle.std.proofs.lemmas.List.{nil_from_length}
 use Rattle.pt_wire.proofs.Leb128Groups.{group_within, groups_end, group_refused, group_too_great, groups_behind}
 use Rattle.pt_wire.proofs.groups.+read_groups.Goals as goal
@@ -16,10 +16,10 @@ pub returns-else-least-first-clause-err : goal.returns-else-least-first-clause-e
 returns-else-least-first-clause-err t c =
     let small : c.in-Some.first.now < 128 = omega arith in
     let out : c.args.least ≤ c.in-Some.first.now → c.in-Some.first.now ≤ c.args.most → ⊥ = λ above below.
-      elim c.else-least-first.branch [
-        | else-least-first-via-then-least-first+else-first-most w ↦ absurd (omega arith)
-        | else-least-first-via-else-least-first w ↦ absurd (omega arith)
-      ] in
+    elim c.else-least-first.branch [
+      | else-least-first-via-then-least-first+else-first-most w ↦ absurd (omega arith)
+      | else-least-first-via-else-least-first w ↦ absurd (omega arith)
+    ] in
     rw c.in-Some.ensures.cases.0 (group_refused _ _ _ _ c.requires.small c.requires.ordered small out)
 
 pub returns-then-most-low-clause-err : goal.returns-then-most-low-clause-err

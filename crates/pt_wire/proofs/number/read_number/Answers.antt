@@ -1,4 +1,4 @@
-use Rattle.std.proofs.Common.{◌≡◌, ℕ, ◌+◌, ◌<◌, ◌≤◌, [], ◌∷◌, ◌++◌, length, get_or, take, drop, sym, ap, subst, ◌∙◌, arith, length-take}
+use Rattle.std.proofs.Common.{◌≡◌, ◌+◌, ◌∷◌, ◌++◌, length, get_or, drop, sym, ap, subst, ◌∙◌, arith, length-take}
 use Rattle.std.proofs.lemmas.List.{drop_more, take_all, take-append-drop}
 use Rattle.pt_wire.specs.Number.{digits_of}
 use Rattle.pt_wire.specs.Printed.{PrintedNumber}
@@ -12,11 +12,11 @@ returns-in-None-clause-err c =
     let k = c.loop-place.place in
     let i = c.loop-place.invariant in
     let parts : digits ≡ digits_of c.loop-place.number ++ get_or digits k 0 ∷ drop (k + 1) digits =
-      sym (take-append-drop k digits) ∙ ap (λ t. t ++ drop k digits) i.0 ∙ ap (λ t. digits_of c.loop-place.number ++ t) (drop_more digits k 0 (omega arith)) in
+    sym (take-append-drop k digits) ∙ ap (λ t. t ++ drop k digits) i.0 ∙ ap (λ t. digits_of c.loop-place.number ++ t) (drop_more digits k 0 (omega arith)) in
     let place : length (digits_of c.loop-place.number) ≡ k = sym (ap length i.0) ∙ omega (arith, length-take k digits) in
     subst (FailsAt (PrintedNumber c.args.most) digits) place
-      (subst (λ t. FailsAt (PrintedNumber c.args.most) t (length (digits_of c.loop-place.number))) (sym parts)
-        (number_fails c.args.most c.loop-place.number (get_or digits k 0) (drop (k + 1) digits) i.1 c.in-None.ensures))
+    (subst (λ t. FailsAt (PrintedNumber c.args.most) t (length (digits_of c.loop-place.number))) (sym parts)
+    (number_fails c.args.most c.loop-place.number (get_or digits k 0) (drop (k + 1) digits) i.1 c.in-None.ensures))
 
 pub returns-clause-err : goal.returns-clause-err
 returns-clause-err c =

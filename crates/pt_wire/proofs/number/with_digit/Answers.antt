@@ -1,4 +1,4 @@
-use Rattle.std.proofs.Common.{◌≡◌, ℕ, ◌+◌, ◌*◌, ◌-◌, ◌^◌, ◌<◌, ◌≤◌, List, [], ◌∷◌, ◌++◌, IfSome, Option, Some, None, unwrap_or, Bool, true, false, eqb, refl, sym, ap, subst, ◌∙◌, arith, rules}
+use Rattle.std.proofs.Common.{◌≡◌, ℕ, ◌+◌, ◌*◌, ◌-◌, ◌^◌, ◌<◌, ◌≤◌, [], ◌∷◌, ◌++◌, IfSome, Option, Some, None, unwrap_or, true, false, eqb, sym, ap, ◌∙◌, arith}
 use Rattle.std.specs.Fmt.{decimal}
 use Rattle.std.specs.Option.{option_eq}
 use Rattle.std.proofs.lemmas.Bool.{eqb-true}
@@ -26,9 +26,9 @@ returns-then-eq c = λ greater rest few e.
 pub returns-then-greater-most : goal.returns-then-greater-most
 returns-then-greater-most c = λ greater rest few e.
     let least = at_least_front greater c.args.byte c.args.number rest (omega arith) (within c.args.number c.requires.small) e in omega arith where
-  within : (number : Option ℕ) → IfSome number (λ value. value ≤ c.args.most) → IfSome number (λ value. value < 2 ^ 64)
-  within None small = tt
-  within (Some value) small = omega arith
+      within : (number : Option ℕ) → IfSome number (λ value. value ≤ c.args.most) → IfSome number (λ value. value < 2 ^ 64)
+      within None small = tt
+      within (Some value) small = omega arith
 
 pub returns : goal.returns
 returns c =

@@ -1,9 +1,8 @@
-use Rattle.std.proofs.Common.{◌≡◌, ℕ, ◌+◌, ◌<◌, [], ◌∷◌, ◌++◌, All, length, get_or, take, string_bytes, refl, sym, ap, subst, ◌∙◌, arith, add-one, append_assoc, length-take}
+use Rattle.std.proofs.Common.{◌≡◌, ◌+◌, [], ◌∷◌, ◌++◌, length, get_or, take, string_bytes, sym, ap, subst, ◌∙◌, arith, add-one, append_assoc, length-take}
 use Rattle.std.proofs.lemmas.List.{take_more}
 use Rattle.std.proofs.lemmas.List.Elements.{All-tail}
-use Rattle.pt_choice.specs.declared.choice.Choice.{Choice}
 use Rattle.pt_wire.specs.Limits.{IsInLimits}
-use Rattle.pt_wire.specs.Printed.{Printed, PrintedChoice}
+use Rattle.pt_wire.specs.Printed.{PrintedChoice}
 use Rattle.pt_wire.proofs.PrintedChoices.{printed_more}
 use Rattle.pt_wire.proofs.printing.print_choices.Goals as goal
 
@@ -31,4 +30,4 @@ loop-choice-preserved c =
     let space = c.in_ok-push.ensures.bytes ∙ ap (λ t. string_bytes c.loop-choice.out ++ t) (c.in_ok-push.ensures.ascii (omega arith)) in
     let text = written.2 ∙ ap (λ t. t ++ written.0) space ∙ append_assoc (string_bytes c.loop-choice.out) (32 ∷ []) written.0 in
     rw (take_more list (k + 1) item (omega arith), is, text)
-      (printed_more (take (k + 1) list) item (string_bytes c.loop-choice.out) written.0 (omega (arith, length-take (k + 1) list)) c.loop-choice.invariant written.1)
+    (printed_more (take (k + 1) list) item (string_bytes c.loop-choice.out) written.0 (omega (arith, length-take (k + 1) list)) c.loop-choice.invariant written.1)

@@ -1,4 +1,4 @@
-use Rattle.std.proofs.Common.{◌≡◌, ℕ, ◌+◌, ◌<◌, ◌≤◌, [], ◌∷◌, ◌++◌, length, get_or, take, refl, sym, ap, ◌∙◌, append_assoc, arith, add-one, length-take}
+use Rattle.std.proofs.Common.{◌≡◌, ◌+◌, ◌≤◌, ◌∷◌, ◌++◌, get_or, refl, ap, ◌∙◌, append_assoc, arith, add-one, length-take}
 use Rattle.std.specs.Fmt.{decimal}
 use Rattle.std.proofs.lemmas.List.{take_more}
 use Rattle.pt_wire.proofs.PrintedPlaces.{places_more}
@@ -21,6 +21,8 @@ loop-place-preserved c =
     let is : get_or places (k + 1) 0 ≡ place = rw (parts, add-one k) refl in
     let longer = c.in-Some.ensures.cases.1 in
     let bound : place ≤ 255 = omega (arith, c.type_inv.places (k + 1)) in
-    rw (take_more places (k + 1) 0 (omega arith), is)
-      (i.0 ++ 46 ∷ decimal place, places_more _ place i.0 (omega (arith, length-take (k + 1) places)) bound i.1,
-        c.in_ok-write-2.ensures.bytes ∙ ap (λ t. t ++ 46 ∷ decimal place) i.2 ∙ append_assoc _ i.0 (46 ∷ decimal place))
+    rw (take_more places (k + 1) 0 (omega arith), is) (
+      i.0 ++ 46 ∷ decimal place,
+      places_more _ place i.0 (omega (arith, length-take (k + 1) places)) bound i.1,
+      c.in_ok-write-2.ensures.bytes ∙ ap (λ t. t ++ 46 ∷ decimal place) i.2 ∙ append_assoc _ i.0 (46 ∷ decimal place),
+    )

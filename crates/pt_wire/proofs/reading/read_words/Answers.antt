@@ -1,4 +1,4 @@
-use Rattle.std.proofs.Common.{◌≡◌, ℕ, ◌+◌, ◌-◌, [], ◌∷◌, ◌++◌, length, sym, ap, subst, ◌∙◌}
+use Rattle.std.proofs.Common.{[], ◌∷◌, ◌++◌, sym, ap, subst, ◌∙◌}
 use Rattle.pt_wire.specs.Printed.{PrintedChoice}
 use Rattle.pt_wire.specs.Spelling.{Joined}
 use Rattle.pt_wire.proofs.Answers.{reads_gathered}
@@ -12,8 +12,8 @@ returns-in-Err-At c =
     let i = c.loop-choice.invariant in
     let inside = rw c.in-Err-At.field-0-is at c.in-Err-At.ensures.err in
     rw c.in-Err-At.field-0-is
-      (fails_anyway (Joined PrintedChoice 32) c.args.text.now _
-        (fails_cut PrintedChoice 32 choices_markable (λ _. Unit {0}) i.0 i.1 c.loop-choice.rest.now c.args.text.now c.cut.result.0.now c.cut.result.1 c.in-Err-At.place (λ _. tt) i.2 i.4 c.cut.ensures inside))
+    (fails_anyway (Joined PrintedChoice 32) c.args.text.now _
+    (fails_cut PrintedChoice 32 choices_markable (λ _. Unit {0}) i.0 i.1 c.loop-choice.rest.now c.args.text.now c.cut.result.0.now c.cut.result.1 c.in-Err-At.place (λ _. tt) i.2 i.4 c.cut.ensures inside))
 
 pub loop-choice-preserved : goal.loop-choice-preserved
 loop-choice-preserved c =

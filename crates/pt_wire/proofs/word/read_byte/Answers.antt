@@ -1,4 +1,3 @@
-use Rattle.std.proofs.Common.{◌≡◌, ℕ, ◌<◌, [], ◌∷◌, sym, ap, ◌∙◌, arith}
 use Rattle.std.proofs.lemmas.List.{nil_from_length}
 use Rattle.pt_wire.proofs.PrintedBytes.{byte_end, no_first_digit, second_digit_missing, no_second_digit}
 use Rattle.pt_wire.proofs.word.read_byte.Goals as goal

@@ -1,4 +1,4 @@
-use Rattle.std.proofs.Common.{◌≡◌, ◌≢◌, ℕ, ◌+◌, ◌<◌, ◌≤◌, [], ◌∷◌, ◌++◌, length, sym, ap, ◌∙◌, append_assoc, arith, length-append}
+use Rattle.std.proofs.Common.{◌≢◌, [], ◌∷◌, ◌++◌, length, sym, ap, ◌∙◌, append_assoc, arith, length-append}
 use Rattle.std.proofs.lemmas.Bool.{eqb-false}
 use Rattle.pt_wire.specs.Printed.{IsFew, PrintedByte}
 use Rattle.pt_wire.proofs.Chains.{chained_more, fails_within, fails_full_within}
@@ -17,9 +17,12 @@ loop-rest-preserved c =
     let i = c.loop-rest.invariant in
     let bytes = c.loop-rest.bytes in
     let found = c.in-Ok.ensures.ok in
-    rw c.in_ok-push-in-Ok.ensures.ok
-      (i.0 ++ found.0, chained_more PrintedByte bytes c.in-Ok.byte i.0 found.0 i.1 found.1,
-        i.2 ∙ ap (λ t. i.0 ++ t) found.2 ∙ sym (append_assoc i.0 found.0 c.in-Ok.after.now), omega (arith, length-append bytes (c.in-Ok.byte ∷ [])))
+    rw c.in_ok-push-in-Ok.ensures.ok (
+      i.0 ++ found.0,
+      chained_more PrintedByte bytes c.in-Ok.byte i.0 found.0 i.1 found.1,
+      i.2 ∙ ap (λ t. i.0 ++ t) found.2 ∙ sym (append_assoc i.0 found.0 c.in-Ok.after.now),
+      omega (arith, length-append bytes (c.in-Ok.byte ∷ [])),
+    )
 
 pub returns-in-Err-clause-err : goal.returns-in-Err-clause-err
 returns-in-Err-clause-err c =

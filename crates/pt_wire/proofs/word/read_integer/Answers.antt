@@ -1,4 +1,4 @@
-use Rattle.std.proofs.Common.{◌≡◌, ℕ, ◌<◌, [], ◌∷◌, sym, ap, ◌∙◌, arith}
+use Rattle.std.proofs.Common.{◌≡◌, arith}
 use Rattle.std.proofs.lemmas.List.{nil_from_length}
 use Rattle.pt_wire.proofs.Integers.{integer_end, plain_fails, minus_alone, minus_zero, minus_fails, minus_number}
 use Rattle.pt_wire.proofs.word.read_integer.Goals as goal

@@ -1,4 +1,4 @@
-use Rattle.std.proofs.Common.{◌≡◌, ℕ, [], ◌∷◌, arith}
+use Rattle.std.proofs.Common.{arith}
 use Rattle.std.proofs.lemmas.List.{nil_from_length}
 use Rattle.pt_wire.proofs.PrintedChoices.{choice_end, unknown_letter, bool_behind, integer_behind, bytes_behind, places_behind}
 use Rattle.pt_wire.proofs.word.read_word.Goals as goal
