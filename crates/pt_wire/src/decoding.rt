@@ -7,7 +7,7 @@ ghost use Rattle.pt_wire.specs.Stored.{IsCounted, Stored, StoredChoice, zigzag};
 
 use crate::WireFault;
 use crate::fault::Stop;
-use crate::gathered::{all_gathered, gather, none_gathered};
+use crate::gathered::Gathered;
 use crate::groups::read_groups;
 use pt_choice::{Choice, Choices, Octets};
 use std::alloc::Global;
@@ -20,12 +20,12 @@ pub fn decode(alloc: Global, bytes: &[u8]) -> Result<Choices, WireFault>
     ensures only { (list : List Choice) → Stored list bytes.now → IsAnswerFor list result }
     ensures writable { IfOk result IsWritable }
 {
-    let mut gathered = none_gathered(alloc);
+    let mut gathered = Gathered::empty(alloc);
     let mut rest = bytes;
     while !rest.is_empty() {
         match read_choice(alloc, rest) {
             Ok((choice, after)) => {
-                gather(&mut gathered, choice)?;
+                gathered.gather(choice)?;
                 rest = after;
             }
             Err(Stop::At(place)) => {
@@ -35,7 +35,7 @@ pub fn decode(alloc: Global, bytes: &[u8]) -> Result<Choices, WireFault>
             Err(Stop::NoMemory) => return Err(WireFault::NoMemory),
         }
     }
-    all_gathered(gathered)
+    gathered.into_list()
 }
 
 const GREATEST_NUMBER: u128 = 0x1_ffff_ffff_ffff_fffe;

@@ -7,7 +7,7 @@ ghost use Rattle.pt_wire.specs.Spelling.{Joined};
 
 use crate::WireFault;
 use crate::fault::Stop;
-use crate::gathered::{all_gathered, gather, none_gathered};
+use crate::gathered::Gathered;
 use crate::mark::cut;
 use crate::word::read_word;
 use pt_choice::{Choice, Choices};
@@ -39,12 +39,12 @@ fn read_words(alloc: Global, text: &[u8]) -> Result<Choices, WireFault>
     requires { length text.now < 2 ^ 32 }
     ensures { Reads (Joined PrintedChoice space) text.now result }
 {
-    let mut gathered = none_gathered(alloc);
+    let mut gathered = Gathered::empty(alloc);
     let mut rest = text;
     loop {
         let (word, after) = cut(rest, b' ');
         match read_word(alloc, word) {
-            Ok(choice) => gather(&mut gathered, choice)?,
+            Ok(choice) => gathered.gather(choice)?,
             Err(Stop::At(place)) => {
                 let at = text.len() - rest.len() + place;
                 return Err(WireFault::NotSpelling { at: at as u32 });
@@ -53,7 +53,7 @@ fn read_words(alloc: Global, text: &[u8]) -> Result<Choices, WireFault>
         }
         match after {
             Some(others) => rest = others,
-            None => return all_gathered(gathered),
+            None => return gathered.into_list(),
         }
     }
 }

@@ -9,7 +9,7 @@ use Rattle.pt_wire.proofs.Chains.{chained_more, fails_within, fails_anyway, one_
 use Rattle.pt_wire.proofs.Limited.{stored_limits}
 use Rattle.pt_wire.proofs.StoredChoices.{choices_free}
 use Rattle.pt_wire.proofs.decoding.decode.Goals as goal
-use Rattle.pt_wire.proofs.decoding.decode.Goals.{After-all_gathered, In-Err-At}
+use Rattle.pt_wire.proofs.decoding.decode.Goals.{After-into_list, In-Err-At}
 
 pub loop-rest-preserved : goal.loop-rest-preserved
 loop-rest-preserved c =
@@ -35,18 +35,18 @@ returns-in-Err-At-clause-reads c = rw c.in-Err-At.field-0-is (fails (goal.at.ret
 pub returns-in-Err-At-clause-only : goal.returns-in-Err-At-clause-only
 returns-in-Err-At-clause-only c = (fails (goal.at.returns-in-Err-At-clause-only c).In-Err-At).none
 
-reads : (c : After-all_gathered) → Reads Stored c.args.bytes.now c.all_gathered.result
+reads : (c : After-into_list) → Reads Stored c.args.bytes.now c.into_list.result
 reads c =
     let i = c.loop-rest.invariant in
     let ended : c.loop-rest.rest.now ≡ [] = nil_from_length c.loop-rest.rest.now (eqb-true _ _ (sym c.is_empty.ensures ∙ c.loop-rest-test.false)) in
     let whole : c.args.bytes.now ≡ i.1 = i.4 ∙ ap (λ t. i.1 ++ t) ended ∙ append-nil i.1 in
-    reads_gathered Stored c.args.bytes.now i.0 c.all_gathered.result (rw whole i.2) (c.all_gathered.ensures i.0 i.3)
+    reads_gathered Stored c.args.bytes.now i.0 c.into_list.result (rw whole i.2) (c.into_list.ensures i.0 i.3)
 
 pub returns-clause-reads : goal.returns-clause-reads
 returns-clause-reads c = reads c
 
 pub returns-clause-only : goal.returns-clause-only
-returns-clause-only c = answer_for Stored c.args.bytes.now c.all_gathered.result (λ a b. one_chain StoredChoice choices_free a b c.args.bytes.now) (reads c)
+returns-clause-only c = answer_for Stored c.args.bytes.now c.into_list.result (λ a b. one_chain StoredChoice choices_free a b c.args.bytes.now) (reads c)
 
 pub returns-clause-writable : goal.returns-clause-writable
-returns-clause-writable c = answer_writable Stored c.args.bytes.now c.all_gathered.result (λ list. stored_limits list c.args.bytes.now) (reads c)
+returns-clause-writable c = answer_writable Stored c.args.bytes.now c.into_list.result (λ list. stored_limits list c.args.bytes.now) (reads c)

@@ -29,4 +29,4 @@ returns-in-None c =
     let all = i.0 ++ c.in-Ok.choice ∷ [] in
     let whole = i.4 ∙ ap (λ t. i.1 ++ t) ended in
     let joined = subst (Joined PrintedChoice 32 all) (sym whole) (joined_end PrintedChoice 32 i.0 c.in-Ok.choice i.1 c.cut.result.0.now i.2 c.in-Ok.ensures.ok) in
-    reads_gathered (Joined PrintedChoice 32) c.args.text.now all c.all_gathered.result joined (c.all_gathered.ensures all (c.in_ok-gather-in-Ok.ensures i.0 i.3))
+    reads_gathered (Joined PrintedChoice 32) c.args.text.now all c.into_list.result joined (c.into_list.ensures all (c.in_ok-gather-in-Ok.ensures i.0 i.3))
