@@ -1,8 +1,9 @@
 -- Lists of choices as text.
-use Rattle.std.specs.Prelude.{◌≡◌, ℕ, ◌/◌, ◌%◌, ◌^◌, ◌<◌, ◌≤◌, Bool, true, false, ℤ, unsigned_abs, List, [], ◌∷◌, ◌++◌, length, codes}
+use Rattle.std.specs.Prelude.{◌≡◌, ℕ, ◌/◌, ◌%◌, ◌<◌, ◌≤◌, Bool, true, false, ℤ, List, [], ◌∷◌, ◌++◌, codes}
 use Rattle.std.specs.Fmt.{decimal, digit_glyph, signed_decimal}
 use Rattle.pt_choice.specs.declared.choice.Choice.{Choice}
 use Rattle.pt_choice.specs.declared.choice.Choice.TheVariants as choice
+use Rattle.pt_wire.specs.Limits.{IsBounded, IsFew}
 use Rattle.pt_wire.specs.Spelling.{Among, Chained, Joined}
 
 -- what stands between two choices
@@ -20,7 +21,7 @@ PrintedBool true text = text ≡ codes "t"
 
 -- decimal digits, behind a `-` where the number is below 0
 abbrev pub PrintedInteger : ℤ → List ℕ → Type 0
-PrintedInteger value text = (text ≡ signed_decimal value) × (unsigned_abs value < 2 ^ 64)
+PrintedInteger value text = (text ≡ signed_decimal value) × IsBounded value
 
 -- two lower-case hexadecimal digits
 abbrev pub PrintedByte : ℕ → List ℕ → Type 0
@@ -34,10 +35,6 @@ PrintedNumber most number text = (text ≡ decimal number) × (number ≤ most)
 abbrev pub PrintedPlaces : List ℕ → List ℕ → Type 0
 PrintedPlaces [] text = text ≡ []
 PrintedPlaces (first ∷ others) text = Joined (PrintedNumber 255) dot (first ∷ others) text
-
--- no more values than a choice may hold
-abbrev pub IsFew : List ℕ → Type 0
-IsFew values = length values ≤ 64
 
 -- one choice: a letter for its sort, and then what it holds
 abbrev pub PrintedChoice : Choice → List ℕ → Type 0

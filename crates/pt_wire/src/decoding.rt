@@ -1,7 +1,7 @@
-ghost use Rattle.std.specs.Prelude.{◌≡◌, ◌-◌, ◌<◌, ◌≤◌, ◌^◌, List, length, unsigned_abs, IfErr, IfOk};
+ghost use Rattle.std.specs.Prelude.{◌≡◌, ◌-◌, ◌<◌, ◌≤◌, ◌^◌, List, length, IfErr, IfOk};
 ghost use Rattle.pt_choice.specs.declared.choice.Choice.{Choice};
 ghost use Rattle.pt_wire.specs.Answer.{IsAnswerFor, Reads, StopsAt};
-ghost use Rattle.pt_wire.specs.Limits.{IsWritable};
+ghost use Rattle.pt_wire.specs.Limits.{IsBounded, IsWritable};
 ghost use Rattle.pt_wire.specs.Spelling.{FailsAt, Splits, StartsWith};
 ghost use Rattle.pt_wire.specs.Stored.{IsCounted, Stored, StoredChoice, zigzag};
 
@@ -73,7 +73,7 @@ fn read_choice(alloc: Global, bytes: &[u8]) -> Result<(Choice, &[u8]), Stop>
 fn integer(number: u128) -> i128
     requires { number ≤ 2 ^ 65 - 2 }
     ensures value { zigzag result ≡ number }
-    ensures small { unsigned_abs result < 2 ^ 64 }
+    ensures small { IsBounded result }
 {
     let half = (number / 2) as i128;
     if number % 2 == 0 { half } else { -half - 1 }

@@ -1,5 +1,5 @@
-ghost use Rattle.std.specs.Prelude.{◌≡◌, ◌≤◌, ◌<◌, ◌^◌, length, unsigned_abs, IfOk, OnOk};
-ghost use Rattle.pt_wire.specs.Limits.{IsInLimits, IsWritable};
+ghost use Rattle.std.specs.Prelude.{◌≡◌, IfOk, OnOk};
+ghost use Rattle.pt_wire.specs.Limits.{IsBounded, IsFew, IsInLimits, IsWritable};
 ghost use Rattle.pt_wire.specs.Spelling.{Appends};
 ghost use Rattle.pt_wire.specs.Stored.{IsCounted, Stored, StoredChoice, zigzag};
 
@@ -42,7 +42,7 @@ fn push_choice(out: &mut Octets, choice: &Choice) -> Result<(), NoMemory>
 
 /// The number that stands for an integer of magnitude below 2^64.
 fn zigzag(value: i128) -> u128
-    requires { unsigned_abs value < 2 ^ 64 }
+    requires { IsBounded value }
     ensures { result ≡ zigzag value }
 {
     let twice = 2 * value.unsigned_abs();
@@ -51,7 +51,7 @@ fn zigzag(value: i128) -> u128
 
 /// Writes how many bytes there are, and the bytes.
 fn push_counted(out: &mut Octets, bytes: &[u8]) -> Result<(), NoMemory>
-    requires { length bytes.now ≤ 64 }
+    requires { IsFew bytes.now }
     ensures { OnOk result (Appends IsCounted bytes.now out.old out.new) }
 {
     out.push(bytes.len() as u8)?;

@@ -1,6 +1,6 @@
-ghost use Rattle.std.specs.Prelude.{◌≤◌, length, string_bytes, IfOk, OnOk};
-ghost use Rattle.pt_wire.specs.Limits.{IsInLimits, IsWritable};
-ghost use Rattle.pt_wire.specs.Printed.{IsFew, Printed, PrintedByte, PrintedChoice, PrintedPlaces};
+ghost use Rattle.std.specs.Prelude.{string_bytes, IfOk, OnOk};
+ghost use Rattle.pt_wire.specs.Limits.{IsFew, IsInLimits, IsWritable};
+ghost use Rattle.pt_wire.specs.Printed.{Printed, PrintedByte, PrintedChoice, PrintedPlaces};
 ghost use Rattle.pt_wire.specs.Spelling.{Among, Appends, Chained};
 
 use pt_choice::{Choice, Choices, NoMemory, Octets};
@@ -43,7 +43,7 @@ fn print_choice(out: &mut String, choice: &Choice) -> Result<(), AllocError>
 }
 
 fn print_bytes(out: &mut String, bytes: &[u8]) -> Result<(), AllocError>
-    requires { length bytes.now ≤ 64 }
+    requires { IsFew bytes.now }
     ensures { OnOk result (Appends (Among IsFew (Chained PrintedByte)) bytes.now (string_bytes out.old) (string_bytes out.new)) }
 {
     for byte in bytes {
@@ -53,7 +53,7 @@ fn print_bytes(out: &mut String, bytes: &[u8]) -> Result<(), AllocError>
 }
 
 fn print_places(out: &mut String, places: &[u8]) -> Result<(), AllocError>
-    requires { length places.now ≤ 64 }
+    requires { IsFew places.now }
     ensures { OnOk result (Appends (Among IsFew PrintedPlaces) places.now (string_bytes out.old) (string_bytes out.new)) }
 {
     let Some((first, others)) = places.split_first() else {

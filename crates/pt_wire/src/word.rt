@@ -1,7 +1,8 @@
 ghost use Rattle.std.specs.Prelude.{◌≡◌, ◌<◌, ℕ, false, IfErr, IfOk, MatchOption};
 ghost use Rattle.std.specs.Fmt.{digit_glyph};
 ghost use Rattle.pt_wire.specs.Answer.{StopsAt};
-ghost use Rattle.pt_wire.specs.Printed.{IsFew, PrintedBool, PrintedByte, PrintedChoice, PrintedInteger, PrintedPlaces};
+ghost use Rattle.pt_wire.specs.Limits.{IsFew};
+ghost use Rattle.pt_wire.specs.Printed.{PrintedBool, PrintedByte, PrintedChoice, PrintedInteger, PrintedPlaces};
 ghost use Rattle.pt_wire.specs.Spelling.{Among, Chained, FailsAt, Splits, StartsWith};
 
 use crate::fault::Stop;
