@@ -1,0 +1,15 @@
+pub mod Failing
+pub mod Leb128Groups
+pub mod Bytes
+pub mod StoredChoices
+pub mod Chains
+pub mod Answers
+pub mod Decimals
+pub mod JoinedTexts
+pub mod PrintedPlaces
+pub mod PrintedChoices
+pub mod PrintedBytes
+pub mod Integers
+pub mod PrintedLists
+pub mod OneSpelling
+pub mod Limited

@@ -1,0 +1,11 @@
+use Rattle.pt_wire.specs.Stored.{StoredChoice}
+use Rattle.pt_wire.proofs.Chains.{one_chain}
+use Rattle.pt_wire.proofs.PrintedLists.{one_printed}
+use Rattle.pt_wire.proofs.StoredChoices.{choices_free}
+use Rattle.pt_wire.proofs.laws.one_list.Goals as goal
+
+pub returns-clause-stored : goal.returns-clause-stored
+returns-clause-stored c = one_chain StoredChoice choices_free
+
+pub returns-clause-printed : goal.returns-clause-printed
+returns-clause-printed c = one_printed

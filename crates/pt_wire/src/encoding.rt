@@ -1,0 +1,62 @@
+ghost use Rattle.std.specs.Prelude.{◌≡◌, IfOk, OnOk};
+ghost use Rattle.pt_wire.specs.Limits.{IsBounded, IsFew, IsInLimits, IsWritable};
+ghost use Rattle.pt_wire.specs.Spelling.{Appends};
+ghost use Rattle.pt_wire.specs.Stored.{IsCounted, Stored, StoredChoice, zigzag};
+
+use crate::groups::push_groups;
+use pt_choice::{Choice, Choices, NoMemory, Octets};
+use std::alloc::Global;
+
+/// The bytes that the database stores for a list of choices.
+pub fn encode(alloc: Global, list: &Choices) -> Result<Octets, NoMemory>
+    requires { IsWritable list.now }
+    ensures { IfOk result (Stored list.now) }
+{
+    let mut out = Octets::empty(alloc);
+    for choice in list.as_slice() {
+        push_choice(&mut out, choice)?;
+    }
+    Ok(out)
+}
+
+fn push_choice(out: &mut Octets, choice: &Choice) -> Result<(), NoMemory>
+    requires { IsInLimits choice.now }
+    ensures { OnOk result (Appends StoredChoice choice.now out.old out.new) }
+{
+    match choice {
+        Choice::Bool(value) => out.push(u8::from(*value)),
+        Choice::Int(value) => {
+            out.push(2)?;
+            push_groups(out, zigzag(*value))
+        }
+        Choice::Bytes(items) => {
+            out.push(3)?;
+            push_counted(out, items.as_slice())
+        }
+        Choice::Text(places) => {
+            out.push(4)?;
+            push_counted(out, places.as_slice())
+        }
+    }
+}
+
+/// The number that stands for an integer of magnitude below 2^64.
+fn zigzag(value: i128) -> u128
+    requires { IsBounded value }
+    ensures { result ≡ zigzag value }
+{
+    let twice = 2 * value.unsigned_abs();
+    if value < 0 { twice - 1 } else { twice }
+}
+
+/// Writes how many bytes there are, and the bytes.
+fn push_counted(out: &mut Octets, bytes: &[u8]) -> Result<(), NoMemory>
+    requires { IsFew bytes.now }
+    ensures { OnOk result (Appends IsCounted bytes.now out.old out.new) }
+{
+    out.push(bytes.len() as u8)?;
+    for byte in bytes {
+        out.push(*byte)?;
+    }
+    Ok(())
+}

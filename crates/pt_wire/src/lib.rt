@@ -1,0 +1,27 @@
+//! Lists of choices as texts to print and as bytes to store, and back.
+//!
+//! Both spellings come from strangers too, so each reader answers for every input: the list that it
+//! spells, or the first place from which it can spell none.
+#![tactic(auto)]
+
+mod decoding;
+mod encoding;
+mod fault;
+mod gathered;
+mod groups;
+mod laws;
+mod mark;
+mod number;
+mod printing;
+mod reading;
+mod word;
+
+pub use decoding::decode;
+pub use encoding::encode;
+pub use fault::WireFault;
+pub use laws::{one_list, one_place, one_spelling, read_again};
+pub use printing::print_choices;
+pub use reading::read_choices;
+
+#[cfg(test)]
+mod tests;
