@@ -1,5 +1,5 @@
 -- The runs of the example checks.
-use Rattle.std.proofs.Common.{◌≡◌, ℕ, zero, suc, ◌≤◌, true, false, List, [], ◌∷◌, ◌++◌, length, take, Some, None, refl, sym, ◌∙◌, ap, subst, lit≤, inl, inr, arith}
+use Rattle.std.proofs.Common.{◌≡◌, ℕ, zero, suc, true, false, List, [], ◌∷◌, length, take, Some, refl, sym, ◌∙◌, ap, subst, lit≤, inl, inr, arith}
 use Rattle.std.specs.List.{slice_get}
 use Rattle.pt_choice.specs.Kind.{admits}
 use Rattle.pt_choice.specs.declared.choice.Choice.{Choice}
