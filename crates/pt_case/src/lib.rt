@@ -9,6 +9,8 @@ mod case;
 mod check;
 mod ending;
 mod record;
+#[cfg(test)]
+mod tests;
 
 pub use case::{Case, MAX_CHOICES, Stop};
 pub use check::{Check, fresh};
