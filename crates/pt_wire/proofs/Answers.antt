@@ -3,7 +3,8 @@ use Rattle.std.proofs.Common.{◌≡◌, ℕ, ◌<◌, ◌≤◌, List, length, 
 use Rattle.pt_choice.specs.declared.choice.Choice.{Choice}
 use Rattle.pt_wire.specs.declared.fault.WireFault.{WireFault}
 use Rattle.pt_wire.specs.declared.fault.WireFault.TheVariants as fault
-use Rattle.pt_wire.specs.Limits.{IsInLimits, IsWritable}
+use Rattle.pt_choice.specs.Limits.{IsInLimits}
+use Rattle.pt_wire.specs.Limits.{IsWritable}
 use Rattle.pt_wire.specs.Answer.{Reads, IsAnswerFor}
 
 -- where at most one list is spelled, the answer is the one for that list

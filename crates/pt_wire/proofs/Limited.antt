@@ -4,7 +4,7 @@ use Rattle.std.specs.List.{AllByRecursion}
 use Rattle.std.proofs.lemmas.List.Elements.{All-from_recursion}
 use Rattle.pt_choice.specs.declared.choice.Choice.{Choice}
 use Rattle.pt_choice.specs.declared.choice.Choice.TheVariants as choice
-use Rattle.pt_wire.specs.Limits.{IsInLimits}
+use Rattle.pt_choice.specs.Limits.{IsInLimits}
 use Rattle.pt_wire.specs.Spelling.{Chained, Joined}
 use Rattle.pt_wire.specs.Stored.{StoredChoice, Stored}
 use Rattle.pt_wire.specs.Printed.{PrintedChoice, Printed}

@@ -6,7 +6,7 @@ use Rattle.std.proofs.lemmas.Fmt.{decimal_injective, decimal_nonempty}
 use Rattle.pt_choice.specs.declared.choice.Choice.{Choice}
 use Rattle.pt_choice.specs.declared.choice.Choice.TheVariants as choice
 use Rattle.pt_wire.specs.Spelling.{Among, Begins, Chained, FailsAt, Joined}
-use Rattle.pt_wire.specs.Limits.{IsFew}
+use Rattle.pt_choice.specs.Limits.{IsFew}
 use Rattle.pt_wire.specs.Printed.{PrintedBool, PrintedInteger, PrintedByte, PrintedNumber, PrintedPlaces, PrintedChoice, Printed}
 use Rattle.pt_wire.proofs.Chains.{one_chain}
 use Rattle.pt_wire.proofs.Decimals.{digit_within}

@@ -5,7 +5,7 @@ use Rattle.std.specs.Str.Parse.{AllDigits}
 use Rattle.std.proofs.lemmas.Fmt.{decimal_injective, decimal_is_IsNumeral}
 use Rattle.std.proofs.lemmas.Str.Parse.{digit_from_value}
 use Rattle.pt_wire.specs.Spelling.{Among, FailsAt, Joined}
-use Rattle.pt_wire.specs.Limits.{IsFew}
+use Rattle.pt_choice.specs.Limits.{IsFew}
 use Rattle.pt_wire.specs.Printed.{PrintedNumber, PrintedPlaces}
 use Rattle.pt_wire.proofs.JoinedTexts.{IsMarkable, Lacks, joined_more}
 

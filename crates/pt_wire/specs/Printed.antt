@@ -3,7 +3,7 @@ use Rattle.std.specs.Prelude.{◌≡◌, ℕ, ◌/◌, ◌%◌, ◌<◌, ◌≤�
 use Rattle.std.specs.Fmt.{decimal, digit_glyph, signed_decimal}
 use Rattle.pt_choice.specs.declared.choice.Choice.{Choice}
 use Rattle.pt_choice.specs.declared.choice.Choice.TheVariants as choice
-use Rattle.pt_wire.specs.Limits.{IsBounded, IsFew}
+use Rattle.pt_choice.specs.Limits.{IsBounded, IsFew}
 use Rattle.pt_wire.specs.Spelling.{Among, Chained, Joined}
 
 -- what stands between two choices

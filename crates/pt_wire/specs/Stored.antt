@@ -4,7 +4,7 @@ use Rattle.std.specs.List.{AllByRecursion}
 use Rattle.pt_choice.specs.declared.choice.Choice.{Choice}
 use Rattle.pt_choice.specs.declared.choice.Choice.TheVariants as choice
 use Rattle.pt_wire.specs.Leb128.{IsLeb128}
-use Rattle.pt_wire.specs.Limits.{IsBounded, IsFew}
+use Rattle.pt_choice.specs.Limits.{IsBounded, IsFew}
 use Rattle.pt_wire.specs.Spelling.{Chained}
 
 -- the integers from 0 on are the even numbers, and those below 0 the odd ones

@@ -1,7 +1,8 @@
 ghost use Rattle.std.specs.Prelude.{◌≡◌, ◌-◌, ◌<◌, ◌≤◌, ◌^◌, List, length, IfErr, IfOk};
 ghost use Rattle.pt_choice.specs.declared.choice.Choice.{Choice};
 ghost use Rattle.pt_wire.specs.Answer.{IsAnswerFor, Reads, StopsAt};
-ghost use Rattle.pt_wire.specs.Limits.{IsBounded, IsWritable};
+ghost use Rattle.pt_choice.specs.Limits.{IsBounded};
+ghost use Rattle.pt_wire.specs.Limits.{IsWritable};
 ghost use Rattle.pt_wire.specs.Spelling.{FailsAt, Splits, StartsWith};
 ghost use Rattle.pt_wire.specs.Stored.{IsCounted, Stored, StoredChoice, zigzag};
 

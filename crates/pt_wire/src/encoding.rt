@@ -1,5 +1,6 @@
 ghost use Rattle.std.specs.Prelude.{◌≡◌, IfOk, OnOk};
-ghost use Rattle.pt_wire.specs.Limits.{IsBounded, IsFew, IsInLimits, IsWritable};
+ghost use Rattle.pt_choice.specs.Limits.{IsBounded, IsFew, IsInLimits};
+ghost use Rattle.pt_wire.specs.Limits.{IsWritable};
 ghost use Rattle.pt_wire.specs.Spelling.{Appends};
 ghost use Rattle.pt_wire.specs.Stored.{IsCounted, Stored, StoredChoice, zigzag};
 

@@ -1,5 +1,6 @@
 ghost use Rattle.std.specs.Prelude.{string_bytes, IfOk, OnOk};
-ghost use Rattle.pt_wire.specs.Limits.{IsFew, IsInLimits, IsWritable};
+ghost use Rattle.pt_choice.specs.Limits.{IsFew, IsInLimits};
+ghost use Rattle.pt_wire.specs.Limits.{IsWritable};
 ghost use Rattle.pt_wire.specs.Printed.{Printed, PrintedByte, PrintedChoice, PrintedPlaces};
 ghost use Rattle.pt_wire.specs.Spelling.{Among, Appends, Chained};
 

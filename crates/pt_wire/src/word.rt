@@ -1,7 +1,7 @@
 ghost use Rattle.std.specs.Prelude.{◌≡◌, ◌<◌, ℕ, false, IfErr, IfOk, MatchOption};
 ghost use Rattle.std.specs.Fmt.{digit_glyph};
 ghost use Rattle.pt_wire.specs.Answer.{StopsAt};
-ghost use Rattle.pt_wire.specs.Limits.{IsFew};
+ghost use Rattle.pt_choice.specs.Limits.{IsFew};
 ghost use Rattle.pt_wire.specs.Printed.{PrintedBool, PrintedByte, PrintedChoice, PrintedInteger, PrintedPlaces};
 ghost use Rattle.pt_wire.specs.Spelling.{Among, Chained, FailsAt, Splits, StartsWith};
 

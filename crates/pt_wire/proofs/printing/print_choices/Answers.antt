@@ -1,7 +1,7 @@
 use Rattle.std.proofs.Common.{◌≡◌, ◌+◌, [], ◌∷◌, ◌++◌, length, get_or, take, string_bytes, sym, ap, subst, ◌∙◌, arith, add-one, append_assoc, length-take}
 use Rattle.std.proofs.lemmas.List.{take_more}
 use Rattle.std.proofs.lemmas.List.Elements.{All-tail}
-use Rattle.pt_wire.specs.Limits.{IsInLimits}
+use Rattle.pt_choice.specs.Limits.{IsInLimits}
 use Rattle.pt_wire.specs.Printed.{PrintedChoice}
 use Rattle.pt_wire.proofs.PrintedChoices.{printed_more}
 use Rattle.pt_wire.proofs.printing.print_choices.Goals as goal

@@ -1,6 +1,6 @@
 use Rattle.std.proofs.Common.{◌≢◌, [], ◌∷◌, ◌++◌, length, sym, ap, ◌∙◌, append_assoc, arith, length-append}
 use Rattle.std.proofs.lemmas.Bool.{eqb-false}
-use Rattle.pt_wire.specs.Limits.{IsFew}
+use Rattle.pt_choice.specs.Limits.{IsFew}
 use Rattle.pt_wire.specs.Printed.{PrintedByte}
 use Rattle.pt_wire.proofs.Chains.{chained_more, fails_within, fails_full_within}
 use Rattle.pt_wire.proofs.PrintedBytes.{bytes_free}

@@ -1,6 +1,6 @@
 use Rattle.std.proofs.Common.{◌≢◌, ◌<◌, [], ◌∷◌, ◌++◌, length, sym, ap, ◌∙◌, arith, length-append}
 use Rattle.std.proofs.lemmas.Bool.{eqb-false}
-use Rattle.pt_wire.specs.Limits.{IsFew}
+use Rattle.pt_choice.specs.Limits.{IsFew}
 use Rattle.pt_wire.specs.Printed.{PrintedNumber}
 use Rattle.pt_wire.proofs.JoinedTexts.{joined_end, marked_cut, fails_cut, fails_full_cut}
 use Rattle.pt_wire.proofs.PrintedPlaces.{places_markable, places_printed, places_fail_within}
