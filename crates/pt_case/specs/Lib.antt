@@ -1,4 +1,9 @@
 pub mod Ending
+pub mod Source
+pub mod Remaining
+pub mod Region
 pub mod Step
+pub mod Limits
 pub mod State
+pub mod Kept
 pub mod Run

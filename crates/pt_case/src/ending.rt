@@ -1,9 +1,32 @@
 ghost use Rattle.std.specs.Prelude.{◌≡◌};
 ghost use Rattle.pt_case.specs.Ending.{is_pass, is_failure};
 
+use pt_val::Place;
+
+/// What went wrong at a place of a suite.
+#[derive(Clone, Copy, Debug, PartialEq, Eq)]
+pub enum What {
+    /// An `assert` was false.
+    Assert,
+    /// An invariant of a machine was false.
+    Invariant,
+    /// A number left its range.
+    Overflow,
+    /// A divisor was zero.
+    Division,
+    /// There was no member of this number.
+    Index,
+    /// An expression took too many steps.
+    Cost,
+    /// The bounds of a strategy contradicted one another.
+    Bounds,
+}
+
 /// Where a failure comes from. Two failures are alike exactly where their origins are equal.
 #[derive(Clone, Copy, Debug, PartialEq, Eq)]
 pub enum Origin {
+    /// A place of a suite.
+    Suite { what: What, place: Place },
     /// A numbered point of a check that is handed in by code.
     Point(u32),
 }
