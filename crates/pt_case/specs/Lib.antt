@@ -2,6 +2,7 @@ pub mod Ending
 pub mod Source
 pub mod Remaining
 pub mod Region
+pub mod Refused
 pub mod Step
 pub mod Limits
 pub mod State

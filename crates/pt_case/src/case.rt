@@ -3,6 +3,7 @@ ghost use Rattle.pt_choice.specs.Kind.{admits, AsksSmall};
 ghost use Rattle.pt_case.specs.Source.{Listed, Fresh};
 ghost use Rattle.pt_case.specs.Limits.{IsInLimits};
 ghost use Rattle.pt_case.specs.Region.{innermost, spans_at};
+ghost use Rattle.pt_case.specs.Refused.{kind_refused};
 ghost use Rattle.pt_case.specs.State.{State, IsOver, IsFilled, Answered, Entered, new_state, after_leave, stopped_at};
 
 use crate::answer_source::AnswerSource;
@@ -158,11 +159,14 @@ impl Case {
         self.refused.is_some()
     }
 
-    // What the case refused first, if it refused anything.
-    pub(crate) fn refused(&self) -> Option<Refused>
-        ensures { result ≡ self.now.refused }
+    // The kind of the question that the case refused first, if it refused one before any span.
+    pub(crate) fn kind_refused(&self) -> Option<Kind>
+        ensures { result ≡ kind_refused self.now.refused }
     {
-        self.refused
+        match &self.refused {
+            Some(Refused::Question(kind)) => Some(*kind),
+            _ => None,
+        }
     }
 
     fn refuse(&mut self, refused: Refused) -> Stop

@@ -5,7 +5,6 @@ ghost use Rattle.pt_case.specs.Step.{Answer};
 ghost use Rattle.pt_case.specs.State.{IsNew};
 ghost use Rattle.pt_case.specs.Run.{Ran, IsRecord, IsRun, AsksAfter};
 
-use crate::refused::Refused;
 use crate::{Case, Ending, Record};
 use pt_choice::{Choices, Kind, NoMemory};
 use pt_rng::Supply;
@@ -71,8 +70,5 @@ pub fn asks<C: Check>(alloc: Global, check: &C, list: &Choices) -> Result<Option
 {
     let mut case = Case::replay(alloc, list)?;
     let _ending = check.run(&mut case)?;
-    match case.refused() {
-        Some(Refused::Question(kind)) => Ok(Some(kind)),
-        _ => Ok(None),
-    }
+    Ok(case.kind_refused())
 }
