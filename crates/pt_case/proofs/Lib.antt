@@ -1,3 +1,4 @@
 pub mod KeptLemmas
 pub mod PlacedLemmas
 pub mod RegionLemmas
+pub mod UnderWayLemmas

@@ -8,3 +8,4 @@ pub mod Limits
 pub mod State
 pub mod Kept
 pub mod Run
+pub mod UnderWay

@@ -1,6 +1,8 @@
 ghost use Rattle.std.specs.Prelude.{◌≡◌};
 ghost use Rattle.pt_case.specs.Ending.{is_pass, is_failure};
 
+use crate::Stop;
+use pt_choice::NoMemory;
 use pt_val::Place;
 
 /// What went wrong at a place of a suite.
@@ -45,6 +47,19 @@ pub enum Ending {
 }
 
 impl Ending {
+    ghost use Rattle.pt_case.specs.UnderWay.{ending_of};
+
+    /// How a run ended that goes on by `?` until the case gives no more: a check's `run` hands this on.
+    pub fn of(outcome: Result<Ending, Stop>) -> Result<Ending, NoMemory>
+        ensures { result ≡ ending_of outcome }
+    {
+        match outcome {
+            Ok(ending) => Ok(ending),
+            Err(Stop::Overrun) => Ok(Ending::Overrun),
+            Err(Stop::NoMemory) => Err(NoMemory),
+        }
+    }
+
     pub fn is_pass(self) -> bool
         ensures { result ≡ is_pass self }
     {
