@@ -1,6 +1,6 @@
 -- How a run of a check goes on, and how it ends.
 use Rattle.std.proofs.Common.{◌≡◌, ◌⊎◌, ℕ, zero, suc, ◌+◌, ◌<◌, ◌≤◌, true, false, Option, Some, None, List, [], ◌∷◌, ◌++◌, length, take, inl, inr, refl, sym, ◌∙◌, ap, subst, arith, length-append}
-use Rattle.std.specs.Prelude.{slice_get, is_some}
+use Rattle.std.specs.Prelude.{slice_get, is_some, IfOk, Err}
 use Rattle.std.proofs.lemmas.List.{take-append-le}
 use Rattle.pt_choice.specs.Kind.{admits}
 use Rattle.pt_choice.specs.declared.choice.Choice.{Choice}
@@ -12,9 +12,14 @@ use Rattle.pt_case.specs.Ending.{is_overrun}
 use Rattle.pt_case.specs.Source.{Source, Listed, answer_to, left_after, AnswersAll}
 use Rattle.pt_case.specs.Region.{spans_at}
 use Rattle.pt_case.specs.Step.{Answer, Ask, End, Cut, Says, AsksFor, IsAsked}
-use Rattle.pt_case.specs.State.{State, IsNew, IsOver, Answered, stopped_at}
+use Rattle.pt_case.specs.State.{State, IsNew, IsOver, Answered, new_state, stopped_at}
 use Rattle.pt_case.specs.Run.{IsFollowed, Ran}
-use Rattle.pt_case.specs.UnderWay.{IsUnderWay}
+use Rattle.pt_case.specs.UnderWay.{IsUnderWay, ending_of}
+use Rattle.pt_case.specs.declared.stop.Stop.{Stop}
+use Rattle.pt_case.specs.declared.stop.Stop.TheVariants as stop
+use Rattle.pt_case.specs.declared.region.Region.{Region}
+use Rattle.pt_case.specs.declared.note.Note.{Note}
+use Rattle.pt_case.specs.declared.refused.Refused.{Refused}
 use Rattle.pt_case.proofs.PlacedLemmas.{get_pushed}
 
 -- one more question
@@ -109,6 +114,23 @@ ran-cut step old now after way says stopped = rw stopped record {
   shown = (refl, refl, refl);
   refused = rw way.going refl;
 }
+
+-- a new case has nothing
+pub new-is : (case : State) → IsNew case → case ≡ new_state case.left
+new-is case new = same case.left case.choices case.regions case.notes case.refused new.no_choices new.no_regions new.no_notes new.going
+  where
+    same : (left : Source) (choices : List Choice) (regions : List Region) (notes : List Note) (refused : Option Refused) →
+        choices ≡ [] → regions ≡ [] → notes ≡ [] → refused ≡ None →
+        (let case : State = record { left = left; choices = choices; regions = regions; notes = notes; refused = refused } in case ≡ new_state left)
+    same left choices regions notes refused c r n e = rw (c, r, n, e) refl
+
+-- a question that is not answered ends a run that stops with the case
+pub ran-stopped : (step : List Choice → Answer → Type 0) (old now : State) (kind : Shape) (after : State) (why : Stop) → IsUnderWay step old now →
+    Says step now.choices (Ask kind (spans_at (length now.choices) now.regions) now.notes) →
+    (why ≡ stop.Overrun → IsOver now) → (why ≡ stop.Overrun → after ≡ stopped_at now (Question kind)) →
+    IfOk (ending_of (Err why)) (λ ending. Ran step old after ending)
+ran-stopped step old now kind after stop.Overrun way says over stopped = ran-refused step old now kind after way says (over refl) (stopped refl)
+ran-stopped step old now kind after stop.NoMemory way says over stopped = tt
 
 -- a check that is said by a function has that function's answers
 pub says-function : (answer : List Choice → Answer) (path : List Choice) → Says (λ cs said. said ≡ answer cs) path (answer path)

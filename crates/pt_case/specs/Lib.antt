@@ -9,3 +9,4 @@ pub mod State
 pub mod Kept
 pub mod Run
 pub mod UnderWay
+pub mod Samples

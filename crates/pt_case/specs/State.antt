@@ -37,25 +37,37 @@ IsOver case = (is_some case.refused ≡ true) ⊎ ((case.left ≡ Listed []) ⊎
 abbrev pub IsFilled : State → Type 0
 IsFilled case = (is_some case.refused ≡ true) ⊎ (1024 ≤ length case.regions)
 
+-- the case after this choice answered a question of this kind
+abbrev pub after_draw : State → Shape → Choice → State
+after_draw case kind choice = record case { left = left_after case.left kind; choices = case.choices ++ choice ∷ [] }
+
+-- the case after a span of this label was entered, below the innermost open one
+abbrev pub after_enter : State → ℕ → State
+after_enter case label = record case { regions = case.regions
+    ++ record { label = label; from = length case.choices; to = None; parent = innermost case.regions } ∷ [] }
+
+-- the case after its innermost open span was left, which ends after the last choice
+abbrev pub after_leave : State → State
+after_leave case = record case { regions = leave_innermost (length case.choices) case.regions }
+
+-- the case after this note
+abbrev pub after_note : State → Note → State
+after_note case note = record case { notes = case.notes ++ note ∷ [] }
+
+-- the case after it refused this; what it refused first stays
+abbrev pub stopped_at : State → Refused → State
+stopped_at case refused = record case { refused = option_or case.refused (Some refused) }
+
 -- a question of this kind was answered by this choice
 pub record Answered (old : State) (kind : Shape) (choice : Choice) (new : State) : Type 0 where
   pub answer : answer_to old.left kind ≡ Some choice
   pub admitted : admits kind choice ≡ true
   pub room : length old.choices < 256
   pub going : old.refused ≡ None
-  pub kept : new ≡ record old { left = left_after old.left kind; choices = old.choices ++ choice ∷ [] }
+  pub kept : new ≡ after_draw old kind choice
 
--- a span of this label was entered, below the innermost open one
+-- a span of this label was entered
 pub record Entered (old : State) (label : ℕ) (new : State) : Type 0 where
   pub room : length old.regions < 1024
   pub going : old.refused ≡ None
-  pub kept : new ≡ record old { regions =
-      old.regions ++ record { label = label; from = length old.choices; to = None; parent = innermost old.regions } ∷ [] }
-
--- the case with its innermost open span ended after the last choice
-abbrev pub after_leave : State → State
-after_leave case = record case { regions = leave_innermost (length case.choices) case.regions }
-
--- the case after it refused this; what it refused first stays
-abbrev pub stopped_at : State → Refused → State
-stopped_at case refused = record case { refused = option_or case.refused (Some refused) }
+  pub kept : new ≡ after_enter old label

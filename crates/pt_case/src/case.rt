@@ -1,10 +1,10 @@
-ghost use Rattle.std.specs.Prelude.{◌≡◌, ◌≢◌, ◌↔◌, true, [], ◌∷◌, ◌++◌, length, is_some, IsSome, IfOk, OnOk, OnErr, IsErrOf};
+ghost use Rattle.std.specs.Prelude.{◌≡◌, ◌≢◌, ◌↔◌, true, length, is_some, IsSome, IfOk, OnOk, OnErr, IsErrOf};
 ghost use Rattle.pt_choice.specs.Kind.{admits, AsksSmall};
 ghost use Rattle.pt_case.specs.Source.{Listed, Fresh};
 ghost use Rattle.pt_case.specs.Limits.{IsInLimits};
 ghost use Rattle.pt_case.specs.Region.{innermost, spans_at};
 ghost use Rattle.pt_case.specs.Refused.{kind_refused};
-ghost use Rattle.pt_case.specs.State.{State, IsOver, IsFilled, Answered, Entered, new_state, after_leave, stopped_at};
+ghost use Rattle.pt_case.specs.State.{State, IsOver, IsFilled, Answered, Entered, new_state, after_leave, after_note, stopped_at};
 
 use crate::answer_source::AnswerSource;
 use crate::refused::Refused;
@@ -146,7 +146,7 @@ impl Case {
 
     /// Shows a value under a name. After a refusal the case is as it was.
     pub fn note(&mut self, name: Name, val: Val) -> Result<(), NoMemory>
-        ensures noted { OnOk result (self.new ≡ record self.old { notes = self.old.notes ++ record { name = name; val = val } ∷ [] }) }
+        ensures noted { OnOk result (self.new ≡ after_note self.old (record { name = name; val = val })) }
         ensures unchanged { OnErr result (self.new ≡ self.old) }
     {
         self.notes.push(Note { name, val })
