@@ -1,6 +1,6 @@
 -- How a run of a check goes on, and how it ends.
 use Rattle.std.proofs.Common.{◌≡◌, ◌⊎◌, ℕ, zero, suc, ◌+◌, ◌<◌, ◌≤◌, true, false, Option, Some, None, List, [], ◌∷◌, ◌++◌, length, take, inl, inr, refl, sym, ◌∙◌, ap, subst, arith, length-append}
-use Rattle.std.specs.Prelude.{slice_get, is_some, IfOk, Err}
+use Rattle.std.specs.Prelude.{slice_get, is_some, IfOk, IsErrOf, Err}
 use Rattle.std.proofs.lemmas.List.{take-append-le}
 use Rattle.pt_choice.specs.Kind.{admits}
 use Rattle.pt_choice.specs.declared.choice.Choice.{Choice}
@@ -12,7 +12,7 @@ use Rattle.pt_case.specs.Ending.{is_overrun}
 use Rattle.pt_case.specs.Source.{Source, Listed, answer_to, left_after, AnswersAll}
 use Rattle.pt_case.specs.Region.{spans_at}
 use Rattle.pt_case.specs.Step.{Answer, Ask, End, Cut, Says, AsksFor, IsAsked}
-use Rattle.pt_case.specs.State.{State, IsNew, IsOver, Answered, new_state, stopped_at}
+use Rattle.pt_case.specs.State.{State, IsNew, IsOver, Answered, Entered, new_state, after_draw, after_enter, after_leave, after_note, stopped_at}
 use Rattle.pt_case.specs.Run.{IsFollowed, Ran}
 use Rattle.pt_case.specs.UnderWay.{IsUnderWay, ending_of}
 use Rattle.pt_case.specs.declared.stop.Stop.{Stop}
@@ -127,10 +127,37 @@ new-is case new = same case.left case.choices case.regions case.notes case.refus
 -- a question that is not answered ends a run that stops with the case
 pub ran-stopped : (step : List Choice → Answer → Type 0) (old now : State) (kind : Shape) (after : State) (why : Stop) → IsUnderWay step old now →
     Says step now.choices (Ask kind (spans_at (length now.choices) now.regions) now.notes) →
-    (why ≡ stop.Overrun → IsOver now) → (why ≡ stop.Overrun → after ≡ stopped_at now (Question kind)) →
+    (IsErrOf {T = Choice} (Err why) stop.Overrun → IsOver now) → (IsErrOf {T = Choice} (Err why) stop.Overrun → after ≡ stopped_at now (Question kind)) →
     IfOk (ending_of (Err why)) (λ ending. Ran step old after ending)
 ran-stopped step old now kind after stop.Overrun way says over stopped = ran-refused step old now kind after way says (over refl) (stopped refl)
 ran-stopped step old now kind after stop.NoMemory way says over stopped = tt
+
+-- a span is entered: the run goes on from the state that the code has now, which is this one
+pub enter-on : (step : List Choice → Answer → Type 0) (old now here : State) (label : ℕ) (after : State) → IsUnderWay step old now → now ≡ here →
+    Entered now label after → IsUnderWay step old after × (after ≡ after_enter here label)
+enter-on step old now here label after way is entered =
+    (under_way-kept step old now after way (ap (λ s. s.left) entered.kept) (ap (λ s. s.choices) entered.kept) (ap (λ s. s.refused) entered.kept),
+     entered.kept ∙ ap (λ s. after_enter s label) is)
+
+-- the innermost span is left
+pub leave-on : (step : List Choice → Answer → Type 0) (old now here after : State) → IsUnderWay step old now → now ≡ here →
+    after ≡ after_leave now → IsUnderWay step old after × (after ≡ after_leave here)
+leave-on step old now here after way is left =
+    (under_way-kept step old now after way (ap (λ s. s.left) left) (ap (λ s. s.choices) left) (ap (λ s. s.refused) left),
+     left ∙ ap (λ s. after_leave s) is)
+
+-- a value is noted
+pub note-on : (step : List Choice → Answer → Type 0) (old now here : State) (note : Note) (after : State) → IsUnderWay step old now → now ≡ here →
+    after ≡ after_note now note → IsUnderWay step old after × (after ≡ after_note here note)
+note-on step old now here note after way is noted =
+    (under_way-kept step old now after way (ap (λ s. s.left) noted) (ap (λ s. s.choices) noted) (ap (λ s. s.refused) noted),
+     noted ∙ ap (λ s. after_note s note) is)
+
+-- a question is answered
+pub draw-on : (step : List Choice → Answer → Type 0) (old now here : State) (kind : Shape) (choice : Choice) (after : State) → IsUnderWay step old now → now ≡ here →
+    AsksFor step here.choices kind → Answered now kind choice after → IsUnderWay step old after × (after ≡ after_draw here kind choice)
+draw-on step old now here kind choice after way is asks drawn =
+    (under_way-drawn step old now kind choice after way (rw is asks) drawn, drawn.kept ∙ ap (λ s. after_draw s kind choice) is)
 
 -- a check that is said by a function has that function's answers
 pub says-function : (answer : List Choice → Answer) (path : List Choice) → Says (λ cs said. said ≡ answer cs) path (answer path)
