@@ -2,3 +2,5 @@ pub mod KeptLemmas
 pub mod PlacedLemmas
 pub mod RegionLemmas
 pub mod UnderWayLemmas
+pub mod PathLemmas
+pub mod RecordLemmas

@@ -10,3 +10,4 @@ pub mod Kept
 pub mod Run
 pub mod UnderWay
 pub mod Samples
+pub mod Better
