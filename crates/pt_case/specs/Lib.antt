@@ -1,4 +1,13 @@
 pub mod Ending
+pub mod Source
+pub mod Remaining
+pub mod Region
+pub mod Refused
 pub mod Step
+pub mod Placed
 pub mod State
+pub mod Kept
 pub mod Run
+pub mod UnderWay
+pub mod Samples
+pub mod Better

@@ -1,93 +1,214 @@
-ghost use Rattle.std.specs.Prelude.{◌≡◌, ◌≢◌, ◌↔◌, true, false, [], IsTrue, IfOk, IsErrOf};
-ghost use Rattle.pt_choice.specs.Kind.{AsksSmall};
-ghost use Rattle.pt_case.specs.State.{State, IsOver, Answered, new_state};
+ghost use Rattle.std.specs.Prelude.{◌≡◌, ◌≢◌, ◌↔◌, true, length, is_some, IsSome, IfOk, OnOk, OnErr, IsErrOf};
+ghost use Rattle.pt_choice.specs.Kind.{admits, AsksSmall};
+ghost use Rattle.pt_case.specs.Source.{Listed, Fresh};
+ghost use Rattle.pt_choice.specs.Limits.{IsInLimits};
+ghost use Rattle.pt_case.specs.Region.{innermost, spans_at};
+ghost use Rattle.pt_case.specs.Refused.{kind_refused};
+ghost use Rattle.pt_case.specs.State.{State, IsOver, IsFilled, Answered, Entered, new_state, after_leave, after_note, stopped_at};
 
-use crate::{Ending, Record};
+use crate::answer_source::AnswerSource;
+use crate::refused::Refused;
+use crate::region::Region;
+use crate::{Ending, Note, Notes, Record, Span, Spans, Stop};
 use pt_choice::{Choice, Choices, Kind, NoMemory};
 use pt_rng::Supply;
+use pt_val::{Name, Val};
 use std::alloc::Global;
 use std::marker::Model;
 
 /// The most choices of one case.
 pub const MAX_CHOICES: usize = 256;
 
-/// Why a question was not answered.
-#[derive(Clone, Copy, Debug, PartialEq, Eq)]
-pub enum Stop {
-    /// The case gives no more: `MAX_CHOICES` were answered, or it was stopped before. It is stopped from then on.
-    Overrun,
-    /// Memory ran out. Only dropping the case is of use.
-    NoMemory,
-}
+/// The most spans of one case.
+pub const MAX_SPANS: usize = 1024;
 
-/// One run of a check while it goes: where its answers come from, and the choices so far.
+/// One run of a check while it goes: where its answers come from, and what was made so far.
 #[derive(Drop)]
 pub struct Case {
-    supply: Supply,
+    source: AnswerSource,
     choices: Vec<Choice>,
-    stopped: bool,
+    regions: Vec<Region>,
+    // The number of the innermost open span.
+    innermost: Option<u16>,
+    // Room for the spans of the record.
+    spans: Vec<Span>,
+    notes: Notes,
+    refused: Option<Refused>,
 }
 
 impl Model for Case {
-    ghost use Rattle.std.specs.Prelude.{◌≤◌, vec_len, vec_capacity};
+    ghost use Rattle.std.specs.Prelude.{◌≡◌, ◌≤◌, vec_len, vec_capacity};
+    ghost use Rattle.std.specs.Coded.{codes};
+    ghost use Rattle.pt_val.specs.contracts.val.Val as val;
     ghost use Rattle.pt_case.specs.State.{State};
-    ghost use Rattle.pt_case.specs.declared.case.TheConstants.{MAX_CHOICES};
+    ghost use Rattle.pt_case.specs.Kept.{IsKept};
+    ghost use Rattle.pt_case.specs.declared.case.TheConstants.{MAX_CHOICES, MAX_SPANS};
 
     ghost Value = { State };
 
-    ghost view = { λ case. record { left = case.supply; choices = case.choices.items; stopped = case.stopped } };
+    ghost coded = { Prim.hlevel (codes, val.the_row.coded) };
 
-    ghost invariant = { λ case. (vec_len case.choices ≤ MAX_CHOICES) × (MAX_CHOICES ≤ vec_capacity case.choices) };
+    ghost view = { λ case. record {
+      left = case.source;
+      choices = case.choices.items;
+      regions = case.regions.items;
+      notes = case.notes;
+      refused = case.refused;
+    } };
+
+    ghost invariant = { λ case. (MAX_CHOICES ≤ vec_capacity case.choices) × (MAX_SPANS ≤ vec_capacity case.regions)
+        × (MAX_SPANS ≤ vec_capacity case.spans) × (vec_len case.spans ≡ 0)
+        × IsKept case.choices.items case.regions.items case.innermost };
 }
 
 impl Case {
-    /// A new case over a supply, with room for `MAX_CHOICES` choices.
+    /// A new case over a list that is replayed, with room for `MAX_CHOICES` choices and `MAX_SPANS` spans.
+    pub fn replay(alloc: Global, list: &Choices) -> Result<Case, NoMemory>
+        ensures { IfOk result (λ case. case ≡ new_state (Listed list.now)) }
+    {
+        Case::over(alloc, AnswerSource::listed(list)?)
+    }
+
+    /// A new case over a supply, with room for `MAX_CHOICES` choices and `MAX_SPANS` spans.
     pub fn fresh(alloc: Global, supply: Supply) -> Result<Case, NoMemory>
-        ensures { IfOk result (λ case. case ≡ new_state supply) }
+        ensures { IfOk result (λ case. case ≡ new_state (Fresh supply)) }
+    {
+        Case::over(alloc, AnswerSource::fresh(supply))
+    }
+
+    fn over(alloc: Global, source: AnswerSource) -> Result<Case, NoMemory>
+        ensures { IfOk result (λ case. case ≡ new_state source) }
     {
         Ok(Case {
-            supply,
+            source,
             choices: Vec::with_capacity(alloc, MAX_CHOICES)?,
-            stopped: false,
+            regions: Vec::with_capacity(alloc, MAX_SPANS)?,
+            innermost: None,
+            spans: Vec::with_capacity(alloc, MAX_SPANS)?,
+            notes: Notes::empty(alloc),
+            refused: None,
         })
     }
 
-    /// Asks for a choice of this kind. A boolean takes no memory.
+    /// Asks for a choice of this kind. In a replay the answer is the next member of the list, made to fit. A boolean
+    /// and an integer take no memory.
     pub fn draw(&mut self, kind: &Kind) -> Result<Choice, Stop>
         ensures answered { IfOk result (λ choice. Answered self.old kind.now choice self.new) }
         ensures overrun { IsErrOf result Stop.Overrun ↔ IsOver self.old }
-        ensures stopped { IsErrOf result Stop.Overrun → self.new ≡ record self.old { stopped = true } }
+        ensures stopped { IsErrOf result Stop.Overrun → self.new ≡ stopped_at self.old (Refused.Question kind.now) }
         ensures small { AsksSmall kind.now → result ≢ Err Stop.NoMemory }
     {
-        if self.stopped || self.choices.len() == MAX_CHOICES {
-            self.stopped = true;
-            return Err(Stop::Overrun);
+        if self.refused.is_some() || self.choices.len() == MAX_CHOICES {
+            return Err(self.refuse(Refused::Question(*kind)));
         }
-        let Ok(choice) = self.supply.next_choice(*self.choices.allocator(), kind) else {
-            return Err(Stop::NoMemory);
-        };
-        let Ok(kept) = choice.copy() else {
-            return Err(Stop::NoMemory);
-        };
-        self.choices.push_reserved(kept);
-        Ok(choice)
+        match self.source.answer(*self.choices.allocator(), kind) {
+            Ok(choice) => {
+                stays_in_limits(kind, &choice);
+                self.choices.push_reserved(choice.copy()?);
+                Ok(choice)
+            }
+            Err(Stop::Overrun) => Err(self.refuse(Refused::Question(*kind))),
+            Err(Stop::NoMemory) => Err(Stop::NoMemory),
+        }
     }
 
-    /// Whether a question was refused, so that no more is answered.
+    /// Enters a span of this label, below the innermost open one. It takes no memory.
+    pub fn enter(&mut self, label: u32) -> Result<(), Stop>
+        ensures entered { OnOk result (Entered self.old label self.new) }
+        ensures overrun { IsErrOf result Stop.Overrun ↔ IsFilled self.old }
+        ensures stopped { IsErrOf result Stop.Overrun → self.new ≡ stopped_at self.old Refused.Entry }
+        ensures memory { result ≢ Err Stop.NoMemory }
+    {
+        if self.refused.is_some() || self.regions.len() == MAX_SPANS {
+            return Err(self.refuse(Refused::Entry));
+        }
+        let number = self.regions.len() as u16;
+        self.regions.push_reserved(Region {
+            label,
+            from: self.choices.len() as u16,
+            to: None,
+            parent: self.innermost,
+        });
+        self.innermost = Some(number);
+        Ok(())
+    }
+
+    /// Leaves the innermost open span, which ends after the last choice. It takes no memory.
+    pub fn leave(&mut self)
+        requires { IsSome (innermost self.old.regions) }
+        ensures { self.new ≡ after_leave self.old }
+    {
+        let number = self.innermost.unwrap();
+        let region = &mut self.regions[usize::from(number)];
+        region.to = Some(self.choices.len() as u16);
+        self.innermost = region.parent;
+    }
+
+    /// Shows a value under a name. After a refusal the case is as it was.
+    pub fn note(&mut self, name: Name, val: Val) -> Result<(), NoMemory>
+        ensures noted { OnOk result (self.new ≡ after_note self.old (record { name = name; val = val })) }
+        ensures unchanged { OnErr result (self.new ≡ self.old) }
+    {
+        self.notes.push(Note { name, val })
+    }
+
+    /// Whether a question or a span was refused, so that the case gives no more.
     pub fn stopped(&self) -> bool
-        ensures { result ≡ self.now.stopped }
+        ensures { result ≡ is_some self.now.refused }
     {
-        self.stopped
+        self.refused.is_some()
     }
 
-    /// The record of the case, which ended so.
-    pub fn finish(self, ending: Ending) -> Record
-        ensures { result ≡ record { choices = self.choices; ending = ending } }
+    // The kind of the question that the case refused first, if it refused one before any span.
+    pub(crate) fn kind_refused(&self) -> Option<Kind>
+        ensures { result ≡ kind_refused self.now.refused }
     {
-        let Case { choices, .. } = self;
+        match &self.refused {
+            Some(Refused::Question(kind)) => Some(*kind),
+            _ => None,
+        }
+    }
+
+    fn refuse(&mut self, refused: Refused) -> Stop
+        ensures stop { result ≡ Stop.Overrun }
+        ensures stopped { self.new ≡ stopped_at self.old refused }
+    {
+        self.refused = self.refused.or(Some(refused));
+        Stop::Overrun
+    }
+
+    /// The record of the case, which ended so. Spans that are still open end after the last choice. It takes no
+    /// memory.
+    pub fn finish(self, ending: Ending) -> Record
+        ensures choices { result.choices ≡ self.choices }
+        ensures spans { result.spans ≡ spans_at (length self.choices) self.regions }
+        ensures notes { result.notes ≡ self.notes }
+        ensures ending { result.ending ≡ ending }
+    {
+        let Case {
+            choices,
+            regions,
+            mut spans,
+            notes,
+            ..
+        } = self;
+        let here = choices.len() as u16;
+        for region in &regions {
+            spans.push_reserved(region.ended(here));
+        }
         Record {
             choices: Choices::from(choices),
+            spans: Spans::from(spans),
+            notes,
             ending,
         }
     }
+}
+
+// What a kind admits is within the limits of a record.
+fn stays_in_limits(kind: &Kind, choice: &Choice)
+    requires { admits kind.now choice.now ≡ true }
+    ensures { IsInLimits choice.now }
+{
+    let _shape = kind.shape();
 }

@@ -3,10 +3,10 @@ ghost use Rattle.pt_choice.specs.declared.choice.Choice.{Choice};
 ghost use Rattle.pt_rng.specs.Supplied.{supply_of_run};
 ghost use Rattle.pt_case.specs.Step.{Answer};
 ghost use Rattle.pt_case.specs.State.{IsNew};
-ghost use Rattle.pt_case.specs.Run.{Ran, IsRun};
+ghost use Rattle.pt_case.specs.Run.{Ran, IsRecord, IsRun, AsksAfter};
 
 use crate::{Case, Ending, Record};
-use pt_choice::NoMemory;
+use pt_choice::{Choices, Kind, NoMemory};
 use pt_rng::Supply;
 use pt_val::Name;
 use std::alloc::Global;
@@ -16,15 +16,15 @@ pub trait Check: Drop + Send + Sync {
     /// The check's name.
     ghost name: { Self → List ℕ };
 
-    /// What the check answers after these choices: it asks for another, or it ends. Where it relates a list to no
-    /// answer or to several, the list has none.
+    /// What the check answers after these choices: it asks for another, it ends, or it is cut off at a span too many.
+    /// Where it relates a list to no answer or to several, the list has none.
     ghost step: { Self → List Choice → Answer → Type 0 };
 
     fn name(&self) -> &Name
         ensures { result.now ≡ name self.now };
 
-    /// Runs the check on a new case. It asks and ends as its answers say, and answers `Overrun` exactly where the
-    /// case is stopped.
+    /// Runs the check on a new case. It asks, enters spans, notes and ends as its answers say, and answers `Overrun`
+    /// exactly where the case is stopped.
     fn run(&self, case: &mut Case) -> Result<Ending, NoMemory>
         requires { IsNew case.old }
         ensures { IfOk result (λ ending. Ran (step self.now) case.old case.new ending) };
@@ -44,6 +44,16 @@ impl Check for Box<dyn Check> {
     }
 }
 
+/// The record of a list: its members answer the check's questions one after another, each made to fit the kind that
+/// is asked for. Members that nobody asks for are dropped.
+pub fn replay<C: Check>(alloc: Global, check: &C, list: &Choices) -> Result<Record, NoMemory>
+    ensures { IfOk result (λ rec. IsRecord (C.step check.now) list.now rec) }
+{
+    let mut case = Case::replay(alloc, list)?;
+    let ending = check.run(&mut case)?;
+    Ok(case.finish(ending))
+}
+
 /// The record of a numbered run.
 pub fn fresh<C: Check>(alloc: Global, check: &C, seed: u64, run: u64) -> Result<Record, NoMemory>
     ensures { IfOk result (λ rec. IsRun (C.step check.now) (supply_of_run seed run) rec) }
@@ -51,4 +61,14 @@ pub fn fresh<C: Check>(alloc: Global, check: &C, seed: u64, run: u64) -> Result<
     let mut case = Case::fresh(alloc, Supply::of_run(seed, run))?;
     let ending = check.run(&mut case)?;
     Ok(case.finish(ending))
+}
+
+/// The kind that the check asks for after the choices of the list's record, so that a list can be made longer. None
+/// where it ends there, or wants a span too many.
+pub fn asks<C: Check>(alloc: Global, check: &C, list: &Choices) -> Result<Option<Kind>, NoMemory>
+    ensures { IfOk result (λ asked. AsksAfter (C.step check.now) list.now asked) }
+{
+    let mut case = Case::replay(alloc, list)?;
+    let _ending = check.run(&mut case)?;
+    Ok(case.kind_refused())
 }

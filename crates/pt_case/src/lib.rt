@@ -5,14 +5,29 @@
 //! answers, and `fresh` answers exactly that record.
 #![tactic(auto)]
 
+mod answer_source;
 mod case;
 mod check;
 mod ending;
+mod laws;
+mod note;
 mod record;
+mod refused;
+mod region;
+#[cfg(test)]
+mod samples;
+mod span;
+mod stop;
 #[cfg(test)]
 mod tests;
 
-pub use case::{Case, MAX_CHOICES, Stop};
-pub use check::{Check, fresh};
-pub use ending::{Ending, Origin};
-pub use record::Record;
+pub use case::{Case, MAX_CHOICES, MAX_SPANS};
+pub use check::{Check, asks, fresh, replay};
+pub use ending::{Ending, Origin, What};
+pub use laws::{a_list_has_one_record, a_record_is_its_own, better_goes_down};
+pub use note::{Note, Notes};
+pub use record::{ChoiceLists, Record, Records};
+pub use refused::Refused;
+pub use region::Region;
+pub use span::{Span, Spans};
+pub use stop::Stop;

@@ -1,0 +1,6 @@
+pub mod KeptLemmas
+pub mod PlacedLemmas
+pub mod RegionLemmas
+pub mod UnderWayLemmas
+pub mod PathLemmas
+pub mod RecordLemmas

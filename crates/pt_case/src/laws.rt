@@ -1,0 +1,30 @@
+//! What follows from the definitions for every check. These functions do nothing: their contracts are the laws.
+
+ghost use Rattle.std.specs.Prelude.{◌≡◌, ◌⊎◌, List};
+ghost use Rattle.pt_choice.specs.declared.choice.Choice.{Choice};
+ghost use Rattle.pt_choice.specs.Order.{IsShorter};
+ghost use Rattle.pt_case.specs.declared.record.Record.{Record};
+ghost use Rattle.pt_case.specs.Run.{IsRecord};
+ghost use Rattle.pt_case.specs.Better.{IsBetter};
+
+use crate::Check;
+
+/// A list has at most one record.
+pub fn a_list_has_one_record<C: Check>(check: &C)
+    ensures { (list : List Choice) (one other : Record) →
+        IsRecord (C.step check.now) list one → IsRecord (C.step check.now) list other → one ≡ other }
+{}
+
+/// The record of a record's choices is that record.
+pub fn a_record_is_its_own<C: Check>(check: &C)
+    ensures { (list : List Choice) (rec : Record) →
+        IsRecord (C.step check.now) list rec → IsRecord (C.step check.now) rec.choices rec }
+{}
+
+/// A list that is no better than a failure is no better than a failure alike with the same or shorter choices, so
+/// what a reduction tried in vain need not be tried again.
+pub fn better_goes_down<C: Check>(check: &C)
+    ensures { (list : List Choice) (best lower : Record) →
+        lower.ending ≡ best.ending → ((lower.choices ≡ best.choices) ⊎ IsShorter lower.choices best.choices) →
+        ¬ IsBetter (C.step check.now) list best → ¬ IsBetter (C.step check.now) list lower }
+{}
