@@ -24,7 +24,10 @@ mod tests;
 pub use case::{Case, MAX_CHOICES, MAX_SPANS};
 pub use check::{Check, asks, fresh, replay};
 pub use ending::{Ending, Origin, What};
-pub use laws::{a_list_has_one_record, a_record_is_its_own, better_goes_down};
+pub use laws::{
+    a_list_has_one_record, a_record_is_its_own, a_run_has_one_record, a_run_replays_to_itself,
+    better_goes_down,
+};
 pub use note::{Note, Notes};
 pub use record::{ChoiceLists, Record, Records};
 pub use refused::Refused;

@@ -1,12 +1,13 @@
 //! Records of replays and fresh runs, and cases at their limits, with values worked by hand.
 
 use crate::samples::{Always, Nested, Never};
-use crate::{Case, Check, Ending, Origin, Record, Span, Stop, asks, fresh, replay};
+use crate::{Case, Check, Ending, Note, Origin, Record, Span, Stop, asks, fresh, replay};
 use Sample::{Flag, Number};
 use pt_choice::{Choice, Choices, Kind, NoMemory, Shape};
 use pt_rng::Supply;
-use pt_val::{Name, Val};
+use pt_val::{Name, NameStop, Val};
 use std::alloc::Global;
+use std::process::Abort;
 use std::test::Fail;
 
 const FLAG: Shape = Shape::Bool { chance: 8 };
@@ -40,101 +41,84 @@ fn span(label: u32, from: u16, to: u16, parent: Option<u16>) -> Span {
     }
 }
 
-#[test]
-fn a_list_is_made_to_fit_and_followed_as_far_as_it_goes(rt: HostRuntime) -> Result<(), Fail> {
-    let alloc = rt.alloc();
+fn nested(alloc: Global) -> Result<Nested, NameStop> {
     let name = Name::of(alloc, "nested")?;
-    let nested = Nested { name };
-    let whole: [(&[Sample], &[Sample]); 2] = [
-        (
-            &[Flag(true), Number(4), Flag(false)],
-            &[Flag(true), Number(4), Flag(false)],
-        ),
-        (
-            &[Number(7), Number(12), Flag(true), Flag(true)],
-            &[Flag(false), Number(0), Flag(true)],
-        ),
+    Ok(Nested { name })
+}
+
+fn expect_whole(rt: &impl Abort, rec: &Record, choices: &Choices) {
+    assert_eq!(rt; rec.choices.as_slice(), choices.as_slice());
+    assert_eq!(rt; rec.ending, Ending::Pass);
+    let spans = [
+        span(1, 0, 3, None),
+        span(2, 1, 3, Some(0)),
+        span(3, 2, 3, Some(1)),
     ];
-    for (given, want) in whole {
-        let rec = replay(alloc, &nested, &list(alloc, given)?)?;
-        assert_eq!(rt; rec.choices.as_slice(), list(alloc, want)?.as_slice());
-        assert_eq!(rt; rec.ending, Ending::Pass);
-        let spans = [
-            span(1, 0, 3, None),
-            span(2, 1, 3, Some(0)),
-            span(3, 2, 3, Some(1)),
-        ];
-        assert_eq!(rt; rec.spans.as_slice(), spans.as_slice());
-        assert!(rt; asks(alloc, &nested, &list(alloc, given)?)?.is_none());
-    }
+    assert_eq!(rt; rec.spans.as_slice(), spans.as_slice());
+}
+
+#[test]
+fn a_list_is_made_to_fit(rt: HostRuntime) -> Result<(), Fail> {
+    let alloc = rt.alloc();
+    let nested = nested(alloc)?;
+    let given = list(alloc, &[Flag(true), Number(4), Flag(false)])?;
+    expect_whole(&rt, &replay(alloc, &nested, &given)?, &given);
+    let given = list(alloc, &[Number(7), Number(12), Flag(true), Flag(true)])?;
+    let fitted = list(alloc, &[Flag(false), Number(0), Flag(true)])?;
+    expect_whole(&rt, &replay(alloc, &nested, &given)?, &fitted);
+    assert!(rt; asks(alloc, &nested, &given)?.is_none());
     Ok(())
+}
+
+fn expect_cut(rt: &impl Abort, rec: &Record, choices: &Choices, spans: &[Span]) {
+    assert_eq!(rt; rec.choices.as_slice(), choices.as_slice());
+    assert_eq!(rt; rec.ending, Ending::Overrun);
+    assert_eq!(rt; rec.spans.as_slice(), spans);
 }
 
 #[test]
 fn a_list_that_is_too_short_overruns(rt: HostRuntime) -> Result<(), Fail> {
     let alloc = rt.alloc();
-    let name = Name::of(alloc, "nested")?;
-    let nested = Nested { name };
-    let cut: [(&[Sample], &[Span], Shape); 3] = [
-        (&[], &[span(1, 0, 0, None)], FLAG),
-        (
-            &[Flag(true)],
-            &[span(1, 0, 1, None), span(2, 1, 1, Some(0))],
-            DIGIT,
-        ),
-        (
-            &[Flag(true), Number(9)],
-            &[
-                span(1, 0, 2, None),
-                span(2, 1, 2, Some(0)),
-                span(3, 2, 2, Some(1)),
-            ],
-            FLAG,
-        ),
-    ];
-    for (given, spans, asked) in cut {
-        let given = list(alloc, given)?;
-        let rec = replay(alloc, &nested, &given)?;
-        assert_eq!(rt; rec.choices.as_slice(), given.as_slice());
-        assert_eq!(rt; rec.ending, Ending::Overrun);
-        assert_eq!(rt; rec.spans.as_slice(), spans);
-        let kind = asks(alloc, &nested, &given)?.ok_or("a question")?;
-        assert_eq!(rt; kind.shape(), asked);
-    }
+    let nested = nested(alloc)?;
+    let given = list(alloc, &[Flag(true)])?;
+    let spans = [span(1, 0, 1, None), span(2, 1, 1, Some(0))];
+    expect_cut(&rt, &replay(alloc, &nested, &given)?, &given, &spans);
+    let kind = asks(alloc, &nested, &given)?.ok_or("a question")?;
+    assert_eq!(rt; kind.shape(), DIGIT);
     Ok(())
 }
 
 #[test]
-fn checks_without_spans(rt: HostRuntime) -> Result<(), Fail> {
+fn a_check_asks_and_passes(rt: HostRuntime) -> Result<(), Fail> {
     let alloc = rt.alloc();
-    let never = Never {
-        name: Name::of(alloc, "never")?,
-    };
+    let name = Name::of(alloc, "never")?;
+    let never = Never { name };
     assert_eq!(rt; never.name().as_slice(), b"never".as_slice());
-    let one = list(alloc, &[Flag(true)])?;
-    let none = Choices::empty(alloc);
-    let kind = asks(alloc, &never, &none)?.ok_or("a question")?;
+    let kind = asks(alloc, &never, &Choices::empty(alloc))?.ok_or("a question")?;
     assert_eq!(rt; kind.shape(), FLAG);
-    assert!(rt; asks(alloc, &never, &one)?.is_none());
-    let rec = replay(alloc, &never, &one)?.copy()?;
-    assert_eq!(rt; rec.choices.as_slice(), one.as_slice());
+    let given = list(alloc, &[Flag(true)])?;
+    assert!(rt; asks(alloc, &never, &given)?.is_none());
+    let rec = replay(alloc, &never, &given)?.copy()?;
+    assert_eq!(rt; rec.choices.as_slice(), given.as_slice());
     assert!(rt; rec.ending.is_pass());
-    let always: Box<dyn Check> = Box::new(
-        alloc,
-        Always {
-            name: Name::of(alloc, "always")?,
-        },
-    )?;
-    let number = list(alloc, &[Number(1)])?;
-    for rec in [
-        replay(alloc, &always, &number)?,
-        fresh(alloc, &always, 1, 0)?,
-    ] {
-        assert_eq!(rt; rec.choices.len(), 0);
-        assert_eq!(rt; rec.ending, Ending::Fail(Origin::Point(1)));
-        assert!(rt; rec.ending.is_failure());
-    }
-    assert!(rt; asks(alloc, &always, &none)?.is_none());
+    Ok(())
+}
+
+fn expect_failure(rt: &impl Abort, rec: &Record) {
+    assert_eq!(rt; rec.choices.len(), 0);
+    assert_eq!(rt; rec.ending, Ending::Fail(Origin::Point(1)));
+    assert!(rt; rec.ending.is_failure());
+}
+
+#[test]
+fn a_boxed_check_fails(rt: HostRuntime) -> Result<(), Fail> {
+    let alloc = rt.alloc();
+    let name = Name::of(alloc, "always")?;
+    let always: Box<dyn Check> = Box::new(alloc, Always { name })?;
+    let given = list(alloc, &[Number(1)])?;
+    expect_failure(&rt, &replay(alloc, &always, &given)?);
+    expect_failure(&rt, &fresh(alloc, &always, 1, 0)?);
+    assert!(rt; asks(alloc, &always, &given)?.is_none());
     Ok(())
 }
 
@@ -143,21 +127,45 @@ fn a_stopped_case_gives_no_more(rt: HostRuntime) -> Result<(), Fail> {
     let alloc = rt.alloc();
     let kind = Kind::of_bool(8).ok_or("a kind")?;
     let mut case = Case::replay(alloc, &list(alloc, &[Flag(true)])?)?;
-    case.note(Name::of(alloc, "before")?, Val::Int(1))?;
     assert_eq!(rt; case.enter(1), Ok(()));
     assert_eq!(rt; case.draw(&kind), Ok(Choice::Bool(true)));
     assert!(rt; !case.stopped());
     assert_eq!(rt; case.draw(&kind), Err(Stop::Overrun));
     assert!(rt; case.stopped());
     assert_eq!(rt; case.enter(1), Err(Stop::Overrun));
-    case.note(Name::of(alloc, "after")?, Val::Bool(true))?;
-    let rec = case.finish(Ending::Pass);
+    let rec = case.finish(Ending::Overrun);
     assert_eq!(rt; rec.spans.as_slice(), [span(1, 0, 1, None)].as_slice());
+    Ok(())
+}
+
+fn noted(alloc: Global, case: &mut Case, name: &str) -> Result<(), NameStop> {
+    case.note(Name::of(alloc, name)?, Val::Bool(true))?;
+    Ok(())
+}
+
+#[test]
+fn notes_before_and_after_an_overrun_stay(rt: HostRuntime) -> Result<(), Fail> {
+    let alloc = rt.alloc();
+    let kind = Kind::of_bool(8).ok_or("a kind")?;
+    let mut case = Case::replay(alloc, &Choices::empty(alloc))?;
+    noted(alloc, &mut case, "before")?;
+    assert_eq!(rt; case.draw(&kind), Err(Stop::Overrun));
+    noted(alloc, &mut case, "after")?;
+    let rec = case.finish(Ending::Pass);
     assert_eq!(rt; rec.notes.len(), 2);
     let names: [&[u8]; 2] = [b"before", b"after"];
     for (note, name) in rec.notes.as_slice().iter().zip(names) {
-        assert_eq!(rt; note.copy()?.name.as_slice(), name);
+        assert_eq!(rt; note.name.as_slice(), name);
     }
+    assert!(rt;
+        matches!(
+            rec.notes.copy()?.as_slice().first(),
+            Some(Note {
+                val: Val::Bool(true),
+                ..
+            })
+        )
+    );
     Ok(())
 }
 
@@ -203,13 +211,13 @@ fn is_shared<T: Send + Sync>(_: &T) {}
 #[test]
 fn workers_share_them(rt: HostRuntime) -> Result<(), Fail> {
     let alloc = rt.alloc();
-    let rec: Record = Case::fresh(alloc, Supply::simplest())?.finish(Ending::Pass);
+    let rec = Case::fresh(alloc, Supply::simplest())?.finish(Ending::Pass);
     is_shared(&rec);
     is_shared(&rec.choices);
     is_shared(&rec.spans);
     is_shared(&rec.notes);
     is_shared(&span(1, 0, 0, None));
-    is_shared(&crate::Note {
+    is_shared(&Note {
         name: Name::of(alloc, "x")?,
         val: Val::Int(0),
     });
