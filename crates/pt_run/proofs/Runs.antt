@@ -4,7 +4,7 @@ use Rattle.std.proofs.lemmas.Grind.{common_steps}
 use Rattle.pt_choice.specs.declared.choice.Choice.{Choice}
 use Rattle.pt_rng.specs.Supplied.{supply_of_run}
 use Rattle.pt_case.specs.Step.{Answer}
-use Rattle.pt_case.specs.Run.{IsRun}
+use Rattle.pt_case.specs.Run.{IsRun, IsRecord}
 use Rattle.pt_case.specs.Ending.{is_pass, is_failure}
 use Rattle.pt_case.specs.declared.record.Record.{Record}
 use Rattle.pt_run.specs.Outcome.{AreRuns, AreOpen, IsFinding, passes, failures}
@@ -71,9 +71,9 @@ Going-push step seed runs run valid now rec going made passed counted fewer =
 -- the run that fails decides
 pub IsFinding-failed : (step : List Choice → Answer → Type 0) (name : List ℕ) (seed runs run valid now : ℕ) (rec : Record) →
     Going step seed runs run valid → run < 10 * runs → IsRun step (supply_of_run seed run) rec → is_failure rec.ending ≡ true →
-    now ≡ valid + (if is_pass rec.ending then 1 else 0) →
+    now ≡ valid + (if is_pass rec.ending then 1 else 0) → IsRecord step rec.choices rec →
     IsFinding step name seed runs (record { name = name; verdict = Failed rec (Run run); seen = run + 1; valid = now; runs = runs })
-IsFinding-failed step name seed runs run valid now rec going within made failed counted = record {
+IsFinding-failed step name seed runs run valid now rec going within made failed counted again = record {
   named = refl;
   asked = refl;
   records = going.records ++ rec ∷ [];
@@ -81,6 +81,7 @@ IsFinding-failed step name seed runs run valid now rec going within made failed 
   decided = (going.records, refl, going.undecided, omega (arith, going.as_many), failed, sym going.as_many);
   all_seen = omega (arith, going.as_many, length-append going.records (rec ∷ []));
   all_valid = counted ∙ sym (passes-push going.records rec valid going.passing);
+  replays = again;
 }
 
 -- the last pass that was asked for decides
@@ -98,6 +99,7 @@ IsFinding-passed step name seed runs run valid now rec going within made counted
       decided = (going.records, rec, refl, going.undecided, omega (arith, going.as_many), passing ∙ sym counted ∙ enough);
       all_seen = omega (arith, going.as_many, length-append going.records (rec ∷ []));
       all_valid = counted ∙ sym passing;
+      replays = tt;
     }
 
 -- the last run of all decides
@@ -111,4 +113,5 @@ IsFinding-gave_up step name seed runs valid going = record {
   decided = (going.undecided, going.as_many);
   all_seen = sym going.as_many;
   all_valid = going.passing;
+  replays = tt;
 }

@@ -1,3 +1,5 @@
+pub mod Command
+pub mod Due
 pub mod Message
 pub mod Outcome
 pub mod Report

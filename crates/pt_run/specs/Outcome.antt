@@ -3,7 +3,7 @@ use Rattle.std.specs.Prelude.{◌≡◌, ℕ, ◌+◌, ◌*◌, ◌<◌, true, L
 use Rattle.pt_choice.specs.declared.choice.Choice.{Choice}
 use Rattle.pt_rng.specs.Supplied.{supply_of_run}
 use Rattle.pt_case.specs.Step.{Answer}
-use Rattle.pt_case.specs.Run.{IsRun}
+use Rattle.pt_case.specs.Run.{IsRun, IsRecord}
 use Rattle.pt_case.specs.Ending.{is_pass, is_failure}
 use Rattle.pt_case.specs.declared.record.Record.{Record}
 use Rattle.pt_run.specs.declared.finding.Finding.{Finding}
@@ -40,6 +40,12 @@ Decides runs records (Failed shown (Run run)) =
     × (length before < 10 * runs) × (is_failure shown.ending ≡ true) × (run ≡ length before)
 Decides runs records GaveUp = AreOpen runs records × (length records ≡ 10 * runs)
 
+-- a failure that is shown is the record of its own choices
+abbrev pub ReplaysItself : (List Choice → Answer → Type 0) → Verdict → Type 0
+ReplaysItself step Passed = Unit {0}
+ReplaysItself step GaveUp = Unit {0}
+ReplaysItself step (Failed shown found) = IsRecord step shown.choices shown
+
 -- the finding of a check of this name: what its runs 0, 1, 2 and so on come to
 pub record IsFinding (step : List Choice → Answer → Type 0) (name : List ℕ) (seed runs : ℕ) (finding : Finding) : Type 0 where
   pub named : finding.name ≡ name
@@ -49,3 +55,4 @@ pub record IsFinding (step : List Choice → Answer → Type 0) (name : List ℕ
   pub decided : Decides runs records finding.verdict
   pub all_seen : finding.seen ≡ length records
   pub all_valid : finding.valid ≡ passes records
+  pub replays : ReplaysItself step finding.verdict

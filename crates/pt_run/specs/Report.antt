@@ -1,11 +1,17 @@
 -- The texts that are printed.
-use Rattle.std.specs.Prelude.{ℕ, Bool, List, [], ◌∷◌, ◌++◌, codes, count_by}
+use Rattle.std.specs.Prelude.{◌≡◌, ℕ, Bool, List, [], ◌∷◌, ◌++◌, codes, count_by}
 use Rattle.std.specs.List.{concat, flat_map}
 use Rattle.std.specs.Fmt.{decimal}
+use Rattle.pt_val.specs.Text.{text_of}
+use Rattle.pt_wire.specs.Printed.{Printed}
 use Rattle.pt_case.specs.declared.ending.Ending.{Ending}
 use Rattle.pt_case.specs.declared.ending.Ending.TheVariants as ending
 use Rattle.pt_case.specs.declared.ending.Origin.{Origin}
-use Rattle.pt_case.specs.declared.ending.Origin.TheVariants.{Point}
+use Rattle.pt_case.specs.declared.ending.Origin.TheVariants.{Suite, Point}
+use Rattle.pt_case.specs.declared.ending.What.{What}
+use Rattle.pt_case.specs.declared.ending.What.TheVariants.{Assert, Invariant, Overflow, Division, Index, Cost, Bounds}
+use Rattle.pt_case.specs.declared.note.Note.{Note}
+use Rattle.pt_case.specs.declared.record.Record.{Record}
 use Rattle.pt_run.specs.declared.finding.Finding.{Finding}
 use Rattle.pt_run.specs.declared.finding.Found.{Found}
 use Rattle.pt_run.specs.declared.finding.Found.TheVariants.{Run}
@@ -17,31 +23,62 @@ use Rattle.pt_run.specs.Verdict.{has_passed, has_failed, has_given_up}
 abbrev pub line : List (List ℕ) → List ℕ
 line pieces = concat pieces ++ 10 ∷ []
 
--- where a failure comes from
+-- the word for what went wrong at a place of a suite
+abbrev pub what_text : What → List ℕ
+what_text Assert = codes "assert"
+what_text Invariant = codes "invariant"
+what_text Overflow = codes "overflow"
+what_text Division = codes "division"
+what_text Index = codes "index"
+what_text Cost = codes "cost"
+what_text Bounds = codes "bounds"
+
+-- where a failure comes from: `L:C (WORD)` or `point K`
 abbrev pub origin_text : Origin → List ℕ
+origin_text (Suite what place) =
+    concat (decimal place.line ∷ codes ":" ∷ decimal place.column ∷ codes " (" ∷ what_text what ∷ codes ")" ∷ [])
 origin_text (Point point) = codes "point " ++ decimal point
 
--- where an ending that is shown as a failure comes from
-abbrev pub failure_text : Ending → List ℕ
-failure_text (ending.Fail origin) = origin_text origin
-failure_text other = []
+-- how a case ended
+abbrev pub ending_text : Ending → List ℕ
+ending_text ending.Pass = codes "passed"
+ending_text ending.Reject = codes "rejected"
+ending_text ending.Overrun = codes "overrun"
+ending_text (ending.Fail origin) = codes "failed at " ++ origin_text origin
+
+-- the line of a note
+abbrev pub note_line : Note → List ℕ
+note_line note = line (codes "  " ∷ note.name ∷ codes " = " ∷ text_of note.val ∷ [])
+
+-- What is shown of a record: the line of each note, in order, and then that of the choices.
+pub record AreShown (rec : Record) (text : List ℕ) : Type 0 where
+  pub choices : List ℕ
+  pub printed : Printed rec.choices choices
+  pub is : text ≡ flat_map note_line rec.notes ++ line (codes "  choices: " ∷ choices ∷ [])
 
 -- the line on where a failure was found
 abbrev pub found_line : Found → List ℕ
 found_line (Run run) = line (codes "  found in run " ∷ decimal run ∷ [])
 
 -- the lines of one finding, with its verdict
-abbrev pub verdict_lines : Finding → Verdict → List ℕ
-verdict_lines finding Passed = line (finding.name ∷ codes ": passed, " ∷ decimal finding.valid ∷ codes " valid" ∷ [])
-verdict_lines finding GaveUp =
-    line (finding.name ∷ codes ": gave up, " ∷ decimal finding.valid ∷ codes " of " ∷ decimal finding.runs
+abbrev pub IsVerdict : Finding → Verdict → List ℕ → Type 0
+IsVerdict finding Passed text = text ≡ line (finding.name ∷ codes ": passed, " ∷ decimal finding.valid ∷ codes " valid" ∷ [])
+IsVerdict finding GaveUp text =
+    text ≡ line (finding.name ∷ codes ": gave up, " ∷ decimal finding.valid ∷ codes " of " ∷ decimal finding.runs
     ∷ codes " valid in " ∷ decimal finding.seen ∷ codes " runs" ∷ [])
-verdict_lines finding (Failed shown found) =
-    line (finding.name ∷ codes ": failed at " ∷ failure_text shown.ending ∷ codes ", not reduced" ∷ []) ++ found_line found
+IsVerdict finding (Failed shown found) text =
+    (lines : List ℕ) × AreShown shown lines
+    × (text ≡ line (finding.name ∷ codes ": " ∷ ending_text shown.ending ∷ codes ", not reduced" ∷ []) ++ (found_line found ++ lines))
 
 -- the lines of one finding
-abbrev pub block : Finding → List ℕ
-block finding = verdict_lines finding finding.verdict
+abbrev pub IsBlock : Finding → List ℕ → Type 0
+IsBlock finding text = IsVerdict finding finding.verdict text
+
+-- the lines of some findings, in order
+abbrev pub AreBlocks : List Finding → List ℕ → Type 0
+AreBlocks [] text = text ≡ []
+AreBlocks (finding ∷ findings) text =
+    (block rest : List ℕ) × IsBlock finding block × AreBlocks findings rest × (text ≡ block ++ rest)
 
 -- how many findings have such a verdict
 abbrev pub how_many : (Verdict → Bool) → List Finding → ℕ
@@ -54,5 +91,10 @@ tail findings =
     ∷ codes " failed, " ∷ decimal (how_many has_given_up findings) ∷ codes " gave up" ∷ [])
 
 -- the whole report of a run
-abbrev pub report : List Finding → List ℕ
-report findings = flat_map block findings ++ tail findings
+abbrev pub IsReport : List Finding → List ℕ → Type 0
+IsReport findings text = (blocks : List ℕ) × AreBlocks findings blocks × (text ≡ blocks ++ tail findings)
+
+-- what a replay on an item of this name shows
+abbrev pub IsReplay : List ℕ → Record → List ℕ → Type 0
+IsReplay name rec text =
+    (lines : List ℕ) × AreShown rec lines × (text ≡ line (name ∷ codes ": " ∷ ending_text rec.ending ∷ []) ++ lines)

@@ -1,7 +1,24 @@
 -- What the words of a command line ask for.
-use Rattle.std.specs.Prelude.{◌≡◌, ℕ, ◌^◌, ◌<◌, ◌≤◌, List, [], ◌∷◌, map, codes, String, string_bytes}
+use Rattle.std.specs.Prelude.{◌≡◌, ℕ, ◌^◌, ◌<◌, ◌≤◌, List, [], ◌∷◌, length, map, codes, String, string_bytes}
 use Rattle.std.specs.Fmt.{decimal}
 use Rattle.std.specs.declared.alloc.Global.{Global}
+use Rattle.pt_choice.specs.declared.choice.Choice.{Choice}
+use Rattle.pt_wire.specs.Printed.{Printed}
+
+-- A run of a suite with a seed and so many workers, or a replay of a list of choices on an item of a suite.
+pub data Asked : Type 0 where
+  Run : (suite : List ℕ) (seed workers : ℕ) → Asked
+  Replay : (suite item : List ℕ) (list : List Choice) → Asked
+
+-- the name of the suite's file
+abbrev pub suite_of : Asked → List ℕ
+suite_of (Run suite seed workers) = suite
+suite_of (Replay suite item list) = suite
+
+-- the item of this name is asked for; a run asks for every item
+abbrev pub IsItem : Asked → List ℕ → Type 0
+IsItem (Run suite seed workers) name = Unit {0}
+IsItem (Replay suite item list) name = name ≡ item
 
 -- The words ask for a run of this suite with this seed and so many workers. A number is written in decimal, with no
 -- sign and no leading zero.
@@ -10,3 +27,19 @@ pub record AsksRun (words : List (String Global)) (suite : List ℕ) (seed worke
   pub seed_fits : seed < 2 ^ 64
   pub one_or_more : 1 ≤ workers
   pub at_most : workers ≤ 16
+
+-- The words ask for a replay on this item of this suite of the list that their last one spells.
+pub record AsksReplay (words : List (String Global)) (suite item : List ℕ) (list : List Choice) : Type 0 where
+  pub word : List ℕ
+  pub spelled : map string_bytes words ≡ codes "replay" ∷ suite ∷ item ∷ word ∷ []
+  pub printed : Printed list word
+  pub few : length list ≤ 256
+
+-- the words ask for this
+abbrev pub Asks : List (String Global) → Asked → Type 0
+Asks words (Run suite seed workers) = AsksRun words suite seed workers
+Asks words (Replay suite item list) = AsksReplay words suite item list
+
+-- the words ask for nothing
+abbrev pub AskNothing : List (String Global) → Type 0
+AskNothing words = (asked : Asked) → Asks words asked → ⊥

@@ -1,24 +1,58 @@
-ghost use Rattle.std.specs.Prelude.{◌≡◌, ◌≢◌, ◌≤◌, ◌<◌, ◌^◌, ℕ, List, IfOk, IfSome, IfNone, Some};
+ghost use Rattle.std.specs.Prelude.{◌≡◌, ◌≢◌, ◌≤◌, ◌<◌, ◌^◌, ℕ, List, length, IfOk, IfSome, IfNone, Some};
 ghost use Rattle.std.specs.Fmt.{decimal};
-ghost use Rattle.pt_run.specs.Words.{AsksRun};
+ghost use Rattle.pt_choice.specs.declared.choice.Choice.{Choice};
+ghost use Rattle.pt_wire.specs.Printed.{Printed};
+ghost use Rattle.pt_run.specs.Command.{asked_by};
+ghost use Rattle.pt_run.specs.Words.{Asks, AskNothing, AsksRun, AsksReplay, suite_of};
 
-use pt_choice::NoMemory;
+use pt_choice::{Choices, NoMemory};
+use pt_wire::{MAX_PRINTED, WireFault, read_choices, short_text};
 use std::alloc::Global;
 
 // The most workers of a run.
 const MAX_WORKERS: u64 = 16;
 
-/// A run of a suite.
-#[derive(Clone, Copy)]
-pub struct Command<'a> {
-    pub suite: &'a str,
-    pub seed: u64,
-    pub workers: u64,
+/// What the words of a command line ask for.
+#[derive(Drop)]
+pub enum Command<'a> {
+    /// Every item of the suite is examined.
+    Run {
+        suite: &'a str,
+        seed: u64,
+        workers: u64,
+    },
+    /// The list is replayed on one item of the suite.
+    Replay {
+        suite: &'a str,
+        item: &'a str,
+        list: Choices,
+    },
+}
+
+impl<'a> Command<'a> {
+    /// The name of the suite's file.
+    pub fn suite(&self) -> &'a str
+        ensures { result.now ≡ suite_of (asked_by self.now) }
+    {
+        match self {
+            Command::Run { suite, .. } | Command::Replay { suite, .. } => suite,
+        }
+    }
 }
 
 /// The command that the words ask for.
 pub fn read_command<'a>(alloc: Global, words: &'a [String]) -> Result<Option<Command<'a>>, NoMemory>
-    ensures asks { IfOk result (λ command. IfSome command (λ c. AsksRun words.now c.suite.now c.seed c.workers)) }
+    ensures asks { IfOk result (λ command. IfSome command (λ c. Asks words.now (asked_by c))) }
+    ensures none { IfOk result (λ command. IfNone command (AskNothing words.now)) }
+{
+    if let Some(command) = read_run(alloc, words)? {
+        return Ok(Some(command));
+    }
+    read_replay(alloc, words)
+}
+
+fn read_run<'a>(alloc: Global, words: &'a [String]) -> Result<Option<Command<'a>>, NoMemory>
+    ensures asks { IfOk result (λ command. IfSome command (λ c. Asks words.now (asked_by c))) }
     ensures none { IfOk result (λ command. IfNone command ((suite : List ℕ) (seed workers : ℕ) → AsksRun words.now suite seed workers → ⊥)) }
 {
     let [run, suite, seed, workers] = words else {
@@ -34,11 +68,46 @@ pub fn read_command<'a>(alloc: Global, words: &'a [String]) -> Result<Option<Com
         return Ok(None);
     };
     let suite = suite.as_str();
-    Ok(Some(Command {
+    Ok(Some(Command::Run {
         suite,
         seed,
         workers,
     }))
+}
+
+fn read_replay<'a>(alloc: Global, words: &'a [String]) -> Result<Option<Command<'a>>, NoMemory>
+    ensures asks { IfOk result (λ command. IfSome command (λ c. Asks words.now (asked_by c))) }
+    ensures none { IfOk result (λ command. IfNone command ((suite item : List ℕ) (list : List Choice) → AsksReplay words.now suite item list → ⊥)) }
+{
+    let [replay, suite, item, choices] = words else {
+        return Ok(None);
+    };
+    if replay.as_str() != "replay" {
+        return Ok(None);
+    }
+    let Some(list) = spelled_list(alloc, choices.as_str())? else {
+        return Ok(None);
+    };
+    let suite = suite.as_str();
+    let item = item.as_str();
+    Ok(Some(Command::Replay { suite, item, list }))
+}
+
+// The list of at most 256 choices that a word spells.
+fn spelled_list(alloc: Global, word: &str) -> Result<Option<Choices>, NoMemory>
+    ensures list { IfOk result (λ found. IfSome found (λ list. Printed list word.now)) }
+    ensures few { IfOk result (λ found. IfSome found (λ list. length list ≤ 256)) }
+    ensures none { IfOk result (λ found. IfNone found ((list : List Choice) → Printed list word.now → length list ≤ 256 → ⊥)) }
+{
+    short_text();
+    if word.len() > MAX_PRINTED {
+        return Ok(None);
+    }
+    match read_choices(alloc, word.as_bytes()) {
+        Ok(list) => Ok(Some(list)),
+        Err(WireFault::NoMemory) => Err(NoMemory),
+        Err(WireFault::TooLong | WireFault::NotSpelling { .. }) => Ok(None),
+    }
 }
 
 /// The number from `least` to `most` that a text is in decimal, with no sign and no leading zero.

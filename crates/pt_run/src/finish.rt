@@ -1,4 +1,5 @@
 use crate::Findings;
+use pt_case::Record;
 
 /// What a call of the program comes to.
 #[derive(Debug, Drop)]
@@ -6,4 +7,6 @@ pub struct Finish {
     /// The exit status.
     pub status: u8,
     pub findings: Findings,
+    /// The record of a replay that was shown whole.
+    pub replayed: Option<Record>,
 }

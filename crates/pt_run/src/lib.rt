@@ -2,14 +2,18 @@
 #![tactic(auto)]
 
 mod command;
+mod ending;
 mod entry;
 mod finding;
 mod finish;
 mod message;
 mod outcome;
+mod pieces;
 mod refusal;
 mod report;
+mod shown;
 mod suite;
+mod telling;
 
 pub use entry::top;
 pub use finding::{Finding, Findings, Found, Verdict};

@@ -1,4 +1,6 @@
 use crate::{Finding, Refusal};
+use pt_case::Record;
+use pt_val::Name;
 
 /// What a call of the program has to say.
 #[derive(Debug, Drop)]
@@ -6,4 +8,6 @@ pub enum Message {
     Refused(Refusal),
     /// The report of a run's one finding.
     Reported(Finding),
+    /// What a replay on an item of this name left.
+    Replayed { item: Name, rec: Record },
 }

@@ -3,7 +3,7 @@ ghost use Rattle.pt_case.specs.Ending.{is_pass};
 ghost use Rattle.pt_run.specs.Outcome.{IsFinding};
 
 use crate::finding::{Finding, Found, Verdict};
-use pt_case::{Check, Record, fresh};
+use pt_case::{Check, Record, a_run_replays_to_itself, fresh};
 use pt_choice::NoMemory;
 use std::alloc::Global;
 
@@ -18,6 +18,7 @@ pub fn examine<C: Check>(
     requires most { runs ≤ 10000 }
     ensures { IfOk result (λ finding. IsFinding (C.step check.now) (C.name check.now) seed runs finding) }
 {
+    a_run_replays_to_itself(check);
     let name = check.name().copy()?;
     let mut valid = 0;
     for run in 0..10 * runs {

@@ -12,6 +12,8 @@ pub enum Refusal {
     TooLarge,
     /// The suite is of no form that is built.
     NotBuilt,
+    /// The suite has no item of the name that a replay asks for.
+    UnknownItem,
 }
 
 impl Refusal {
@@ -20,10 +22,11 @@ impl Refusal {
         ensures { result.now ≡ refusal_line self }
     {
         match self {
-            Refusal::Usage => b"usage: run SUITE SEED WORKERS\n",
+            Refusal::Usage => b"usage: run SUITE SEED WORKERS | replay SUITE NAME CHOICES\n",
             Refusal::Unreadable => b"suite cannot be read\n",
             Refusal::TooLarge => b"suite too large\n",
             Refusal::NotBuilt => b"suite form not built\n",
+            Refusal::UnknownItem => b"unknown item\n",
         }
     }
 
@@ -35,6 +38,7 @@ impl Refusal {
             Refusal::Unreadable => 4,
             Refusal::TooLarge => 9,
             Refusal::NotBuilt => 11,
+            Refusal::UnknownItem => 10,
         }
     }
 }

@@ -1,17 +1,34 @@
 ghost use Rattle.std.specs.Prelude.{◌≡◌, ◌++◌, [], ◌∷◌, IfOk, OnOk, codes, flat_map};
 ghost use Rattle.std.specs.Fmt.{decimal};
-ghost use Rattle.pt_run.specs.Report.{block, found_line, line, tail, failure_text, how_many, verdict_lines};
+ghost use Rattle.pt_run.specs.Report.{
+  IsBlock,
+  IsVerdict,
+  IsReplay,
+  AreShown,
+  ending_text,
+  origin_text,
+  what_text,
+  found_line,
+  note_line,
+  line,
+  tail,
+  how_many,
+};
 ghost use Rattle.pt_run.specs.Verdict.{has_passed, has_failed, has_given_up};
 ghost use Rattle.pt_run.specs.declared.finding.Verdict.TheVariants.{Passed, GaveUp, Failed};
 
+use crate::ending::ending_text;
 use crate::finding::{Finding, Found, Verdict};
-use pt_case::{Ending, Origin, Record};
+use crate::pieces::push_line;
+use crate::shown::shown_lines;
+use pt_case::Record;
 use pt_choice::{NoMemory, Octets};
+use pt_val::Name;
 use std::alloc::Global;
 
 /// The lines of one finding.
 pub fn block(alloc: Global, finding: &Finding) -> Result<Octets, NoMemory>
-    ensures { IfOk result (λ text. text ≡ block finding.now) }
+    ensures { IfOk result (IsBlock finding.now) }
 {
     match &finding.verdict {
         Verdict::Passed => passed_line(alloc, finding),
@@ -21,7 +38,7 @@ pub fn block(alloc: Global, finding: &Finding) -> Result<Octets, NoMemory>
 }
 
 fn passed_line(alloc: Global, finding: &Finding) -> Result<Octets, NoMemory>
-    ensures { IfOk result (λ text. text ≡ verdict_lines finding.now Passed) }
+    ensures { IfOk result (IsVerdict finding.now Passed) }
 {
     let mut text = Vec::new(alloc);
     let name = finding.name.as_slice();
@@ -34,7 +51,7 @@ fn passed_line(alloc: Global, finding: &Finding) -> Result<Octets, NoMemory>
 }
 
 fn gave_up_line(alloc: Global, finding: &Finding) -> Result<Octets, NoMemory>
-    ensures { IfOk result (λ text. text ≡ verdict_lines finding.now GaveUp) }
+    ensures { IfOk result (IsVerdict finding.now GaveUp) }
 {
     let mut text = Vec::new(alloc);
     let name = finding.name.as_slice();
@@ -64,16 +81,18 @@ fn failed_lines(
     shown: &Record,
     found: Found,
 ) -> Result<Octets, NoMemory>
-    ensures { IfOk result (λ text. text ≡ verdict_lines finding.now (Failed shown.now found)) }
+    ensures { IfOk result (IsVerdict finding.now (Failed shown.now found)) }
 {
     let mut text = Vec::new(alloc);
     let name = finding.name.as_slice();
-    let failure = failure_text(alloc, shown.ending)?;
+    let ending = ending_text(alloc, shown.ending)?;
+    let lines = shown_lines(alloc, shown)?;
     push_line(
         &mut text,
-        &[name, b": failed at ", failure.as_slice(), b", not reduced"],
+        &[name, b": ", ending.as_slice(), b", not reduced"],
     )?;
     push_found(alloc, &mut text, found)?;
+    text.extend_from_slice(lines.as_slice())?;
     Ok(Octets::from(text))
 }
 
@@ -88,16 +107,15 @@ fn push_found(alloc: Global, text: &mut Vec<u8>, found: Found) -> Result<(), NoM
     }
 }
 
-fn failure_text(alloc: Global, ending: Ending) -> Result<Octets, NoMemory>
-    ensures { IfOk result (λ text. text ≡ failure_text ending) }
+/// What a replay on an item of this name shows.
+pub fn replay_lines(alloc: Global, item: &Name, rec: &Record) -> Result<Octets, NoMemory>
+    ensures { IfOk result (IsReplay item.now rec.now) }
 {
-    let Ending::Fail(Origin::Point(point)) = ending else {
-        return Ok(Octets::empty(alloc));
-    };
     let mut text = Vec::new(alloc);
-    let point = point.to_string(alloc)?;
-    text.extend_from_slice(b"point ")?;
-    text.extend_from_slice(point.as_bytes())?;
+    let ending = ending_text(alloc, rec.ending)?;
+    let lines = shown_lines(alloc, rec)?;
+    push_line(&mut text, &[item.as_slice(), b": ", ending.as_slice()])?;
+    text.extend_from_slice(lines.as_slice())?;
     Ok(Octets::from(text))
 }
 
@@ -156,15 +174,4 @@ fn tail_line(
         ],
     )?;
     Ok(Octets::from(text))
-}
-
-// Adds these pieces and a line feed.
-fn push_line(text: &mut Vec<u8>, pieces: &[&[u8]]) -> Result<(), NoMemory>
-    ensures { OnOk result (text.new.items ≡ text.old.items ++ (flat_map (λ piece. piece.now) pieces.now ++ 10 ∷ [])) }
-{
-    for piece in pieces {
-        text.extend_from_slice(piece)?;
-    }
-    text.push(b'\n')?;
-    Ok(())
 }

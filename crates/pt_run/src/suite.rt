@@ -1,10 +1,10 @@
 ghost use Rattle.std.specs.Prelude.{◌≡◌, ◌≢◌, [], ◌∷◌, ◌++◌, ◌≤◌, ◌<◌, ℕ, List, length, IfOk, IfSome, IfNone, MatchOption, IsSomeAnd, slice_get};
-ghost use Rattle.pt_run.specs.Suite.{IsSuite, IsRest, IsSetting};
-ghost use Rattle.pt_run.specs.Message.{Names, NamesNone};
+ghost use Rattle.pt_run.specs.Suite.{IsSuite, IsRest, IsSetting, Names, NamesNone};
 
 use crate::command::number;
 use pt_case::Check;
 use pt_choice::NoMemory;
+use pt_val::Name;
 use std::alloc::Global;
 use std::str;
 
@@ -13,34 +13,34 @@ const DEFAULT_RUNS: u32 = 100;
 
 const MAX_RUNS: u64 = 10_000;
 
-/// A check that a suite names, and how many passing runs it asks for.
+/// The one item of a suite: the check that it names, and how many passing runs it asks for.
 #[derive(Drop)]
-pub struct Asked<'a, C> {
+pub struct Item<'a, C> {
     pub check: &'a C,
     pub runs: u32,
 }
 
-/// The first of the checks that the suite names.
-pub fn asked_check<'a, C: Check>(
+/// The item of the suite. Where it names several of the checks, the first is meant.
+pub fn named_item<'a, C: Check>(
     alloc: Global,
     text: &[u8],
     checks: &'a [C],
-) -> Result<Option<Asked<'a, C>>, NoMemory>
-    ensures found { IfOk result (λ asked. IfSome asked (λ a. Names C.name checks.now text.now a.check.now a.runs)) }
-    ensures runs { IfOk result (λ asked. IfSome asked (λ a. (1 ≤ a.runs) × (a.runs ≤ 10000))) }
-    ensures none { IfOk result (λ asked. IfNone asked (NamesNone C.name checks.now text.now)) }
+) -> Result<Option<Item<'a, C>>, NoMemory>
+    ensures found { IfOk result (λ found. IfSome found (λ item. Names C.name checks.now text.now item.check.now item.runs)) }
+    ensures runs { IfOk result (λ found. IfSome found (λ item. (1 ≤ item.runs) × (item.runs ≤ 10000))) }
+    ensures none { IfOk result (λ found. IfNone found (NamesNone C.name checks.now text.now)) }
 {
     for check in checks {
-        let Some(runs) = asked_runs(alloc, text, check.name().as_slice())? else {
+        let Some(runs) = asked_runs(alloc, text, check.name())? else {
             continue;
         };
-        return Ok(Some(Asked { check, runs }));
+        return Ok(Some(Item { check, runs }));
     }
     Ok(None)
 }
 
 // How many runs the suite asks for, where it names this check.
-fn asked_runs(alloc: Global, text: &[u8], name: &[u8]) -> Result<Option<u32>, NoMemory>
+fn asked_runs(alloc: Global, text: &[u8], name: &Name) -> Result<Option<u32>, NoMemory>
     ensures found { IfOk result (λ asked. IfSome asked (IsSuite text.now name.now)) }
     ensures runs { IfOk result (λ asked. IfSome asked (λ runs. (1 ≤ runs) × (runs ≤ 10000))) }
     ensures none { IfOk result (λ asked. IfNone asked ((runs : ℕ) → IsSuite text.now name.now runs → ⊥)) }
@@ -48,7 +48,7 @@ fn asked_runs(alloc: Global, text: &[u8], name: &[u8]) -> Result<Option<u32>, No
     let Some(named) = after(b"check ", text) else {
         return Ok(None);
     };
-    let Some(rest) = after(name, named) else {
+    let Some(rest) = after(name.as_slice(), named) else {
         return Ok(None);
     };
     let Some(runs) = rest_runs(alloc, rest)? else {

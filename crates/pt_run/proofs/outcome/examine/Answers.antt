@@ -4,7 +4,8 @@ use Rattle.pt_run.proofs.outcome.examine.Goals as goal
 
 pub returns-then-is_failure : goal.returns-then-is_failure
 returns-then-is_failure g c = rw c.loop-run.invariant.named
-    (IsFinding-failed _ _ _ _ _ _ _ _ c.loop-run.invariant.going (omega arith) (rw c.from.ensures at c.in_ok-rec.ensures) (sym c.if-is_failure.ensures) (ap (λ n. c.loop-run.valid + n) c.passes-valid.ensures))
+    (IsFinding-failed _ _ _ _ _ _ _ _ c.loop-run.invariant.going (omega arith) (rw c.from.ensures at c.in_ok-rec.ensures) (sym c.if-is_failure.ensures) (ap (λ n. c.loop-run.valid + n) c.passes-valid.ensures)
+    (c.a_run_replays_to_itself.ensures _ _ _ (rw c.from.ensures at c.in_ok-rec.ensures)))
 
 pub returns-then-valid-runs : goal.returns-then-valid-runs
 returns-then-valid-runs g c = rw c.loop-run.invariant.named

@@ -2,7 +2,7 @@ use Rattle.std.proofs.Common.{◌≡◌, ℕ, Some, sym, ◌∙◌, ap, subst, b
 use Rattle.std.specs.List.{slice_get}
 use Rattle.std.proofs.lemmas.Option.{slice_get_within, get_or_from_slice_get}
 use Rattle.pt_run.specs.Suite.{IsSuite}
-use Rattle.pt_run.proofs.suite.asked_check.Goals as goal
+use Rattle.pt_run.proofs.suite.named_item.Goals as goal
 
 pub loop-check-preserved : goal.loop-check-preserved
 loop-check-preserved g c place check runs within is suite =
@@ -15,7 +15,7 @@ loop-check-preserved g c place check runs within is suite =
     (λ k below check runs is suite. c.loop-check.invariant k check runs below is suite)
     (λ check runs is suite.
     let this = c.check-item.is ∙ get_or_from_slice_get checks c.loop-check.check-index check c.check-item.result is in
-    let named = c.as_slice.ensures.same ∙ c.name.ensures ∙ ap name this in
+    let named = c.name.ensures ∙ ap name this in
     none runs (subst (λ n. IsSuite text n runs) (sym named) suite))
     place within check runs is suite
 

@@ -1,7 +1,7 @@
 use Rattle.std.proofs.Common.{◌≡◌, ℕ, ◌<◌, Some}
 use Rattle.std.specs.List.{slice_get}
 use Rattle.pt_run.specs.Suite.{IsSuite}
-use Rattle.pt_run.proofs.suite.asked_check.Given as goal
+use Rattle.pt_run.proofs.suite.named_item.Given as goal
 
 -- none of the checks so far is named
 abbrev pub invariant-loop-check : goal.invariant-loop-check

@@ -1,6 +1,6 @@
 use Rattle.std.proofs.Common.{◌≡◌, ◌++◌, take}
 use Rattle.std.specs.List.{flat_map}
-use Rattle.pt_run.proofs.report.push_line.Given as goal
+use Rattle.pt_run.proofs.pieces.push.Given as goal
 
 -- the pieces so far stand after what was there
 abbrev pub invariant-loop-piece : goal.invariant-loop-piece

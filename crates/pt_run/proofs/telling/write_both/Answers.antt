@@ -1,5 +1,5 @@
 use Rattle.pt_run.proofs.Written.{AppendsPart-first, AppendsPart-second}
-use Rattle.pt_run.proofs.entry.write_both.Goals as goal
+use Rattle.pt_run.proofs.telling.write_both.Goals as goal
 
 pub returns-in_default-clause-part : goal.returns-in_default-clause-part
 returns-in_default-clause-part g c = AppendsPart-first _ _ _ _ c.in_default.ensures.part

@@ -1,7 +1,7 @@
 use Rattle.std.proofs.Common.{◌≡◌, rules, sym, ◌∙◌, arith}
 use Rattle.std.specs.Prelude.{codes, string_bytes}
 use Rattle.pt_run.proofs.Words.{four_items, four_images}
-use Rattle.pt_run.proofs.command.read_command.Goals as goal
+use Rattle.pt_run.proofs.command.read_run.Goals as goal
 
 run_word : (c : goal.After-suite-1) → string_bytes c.run-item.result ≡ codes "run"
 run_word c = search rules
