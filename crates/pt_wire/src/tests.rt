@@ -94,13 +94,17 @@ fn texts_fail_at_the_least_place(rt: HostRuntime) {
 
 #[test]
 fn bytes_fail_at_the_least_place(rt: HostRuntime) {
-    let inputs: [(&[u8], u32); 10] = [
+    let inputs: [(&[u8], u32); 11] = [
         (b"\x05", 0),
         (b"\x02", 1),
         (b"\x02\x80\x00", 2),
         (b"\x02\xff\xff\xff\xff\xff\xff\xff\xff\xff\x03", 10),
         (b"\x02\xfe\xff\xff\xff\xff\xff\xff\xff\xff\x83", 10),
         (b"\x02\xfe\xff\xff\xff\xff\xff\xff\xff\xff\x04", 10),
+        (
+            b"\x02\x80\x80\x80\x80\x80\x80\x80\x80\x80\x80\x80\x80\x80\x80\x80\x80\x80\x80\x80\x01",
+            10,
+        ),
         (b"\x01\x03", 2),
         (b"\x03\x41", 1),
         (b"\x04\x02\xff", 3),
