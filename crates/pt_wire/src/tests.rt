@@ -167,3 +167,18 @@ fn at_most_64_values_are_read(rt: HostRuntime) -> Result<(), Fail> {
     }
     Ok(())
 }
+
+#[test]
+fn longest_choices_are_printed_in_the_most_bytes(rt: HostRuntime) -> Result<(), Fail> {
+    let mut word = Vec::from_slice(rt.alloc(), b"t255")?;
+    word.extend_from_slice(&repeated(rt.alloc(), b".255", 63)?)?;
+    word.push(b' ')?;
+    let mut text = repeated(rt.alloc(), &word, 256)?;
+    text.pop();
+    assert_eq!(rt; text.len(), MAX_PRINTED);
+    let list = read_choices(rt.alloc(), &text)?;
+    assert_eq!(rt; list.len(), 256);
+    let printed = print_choices(rt.alloc(), &list)?;
+    assert_eq!(rt; printed.as_slice(), text.as_slice());
+    Ok(())
+}
