@@ -13,3 +13,4 @@ pub mod Integers
 pub mod PrintedLists
 pub mod OneSpelling
 pub mod Limited
+pub mod PrintedLengths

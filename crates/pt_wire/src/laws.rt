@@ -1,6 +1,6 @@
 //! What holds of the two spellings, whichever way they are gone. A law is what its function ensures; it does nothing.
 
-ghost use Rattle.std.specs.Prelude.{◌≡◌, ◌⊎◌, ℕ, List, Result};
+ghost use Rattle.std.specs.Prelude.{◌≡◌, ◌≤◌, ◌⊎◌, ℕ, List, length, Result};
 ghost use Rattle.pt_choice.specs.declared.choice.Choice.{Choice};
 ghost use Rattle.pt_wire.specs.declared.fault.WireFault.{WireFault};
 ghost use Rattle.pt_wire.specs.declared.fault.WireFault.TheVariants as fault;
@@ -9,6 +9,8 @@ ghost use Rattle.pt_wire.specs.Limits.{IsWritable};
 ghost use Rattle.pt_wire.specs.Printed.{Printed};
 ghost use Rattle.pt_wire.specs.Spelling.{FailsAt};
 ghost use Rattle.pt_wire.specs.Stored.{Stored};
+
+use crate::MAX_PRINTED;
 
 /// A list has at most one spelling of each sort.
 pub fn one_spelling()
@@ -35,4 +37,9 @@ pub fn read_again()
         → Stored list bytes → Reads Stored bytes answer → (answer ≡ Ok list) ⊎ (answer ≡ Err fault.NoMemory) }
     ensures printed { (list : List Choice) (text : List ℕ) (answer : Result (List Choice) WireFault) → IsWritable list
         → Printed list text → Reads Printed text answer → (answer ≡ Ok list) ⊎ (answer ≡ Err fault.NoMemory) }
+{}
+
+/// A list of at most 256 choices is printed in at most `MAX_PRINTED` bytes.
+pub fn short_text()
+    ensures { (list : List Choice) (text : List ℕ) → Printed list text → length list ≤ 256 → length text ≤ MAX_PRINTED }
 {}

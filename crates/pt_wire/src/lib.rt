@@ -19,8 +19,8 @@ mod word;
 pub use decoding::decode;
 pub use encoding::encode;
 pub use fault::WireFault;
-pub use laws::{one_list, one_place, one_spelling, read_again};
-pub use printing::print_choices;
+pub use laws::{one_list, one_place, one_spelling, read_again, short_text};
+pub use printing::{MAX_PRINTED, print_choices};
 pub use reading::read_choices;
 
 #[cfg(test)]

@@ -8,6 +8,9 @@ use pt_choice::{Choice, Choices, NoMemory, Octets};
 use std::alloc::{AllocError, Global};
 use std::fmt::Write;
 
+/// The most bytes in which at most 256 choices are printed: 256 words of at most 256 bytes each, and 255 spaces.
+pub const MAX_PRINTED: usize = 65_791;
+
 /// The text in which reports and commands show a list of choices.
 pub fn print_choices(alloc: Global, list: &Choices) -> Result<Octets, NoMemory>
     requires { IsWritable list.now }

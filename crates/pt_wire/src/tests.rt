@@ -94,13 +94,17 @@ fn texts_fail_at_the_least_place(rt: HostRuntime) {
 
 #[test]
 fn bytes_fail_at_the_least_place(rt: HostRuntime) {
-    let inputs: [(&[u8], u32); 10] = [
+    let inputs: [(&[u8], u32); 11] = [
         (b"\x05", 0),
         (b"\x02", 1),
         (b"\x02\x80\x00", 2),
         (b"\x02\xff\xff\xff\xff\xff\xff\xff\xff\xff\x03", 10),
         (b"\x02\xfe\xff\xff\xff\xff\xff\xff\xff\xff\x83", 10),
         (b"\x02\xfe\xff\xff\xff\xff\xff\xff\xff\xff\x04", 10),
+        (
+            b"\x02\x80\x80\x80\x80\x80\x80\x80\x80\x80\x80\x80\x80\x80\x80\x80\x80\x80\x80\x80\x01",
+            10,
+        ),
         (b"\x01\x03", 2),
         (b"\x03\x41", 1),
         (b"\x04\x02\xff", 3),
@@ -161,5 +165,20 @@ fn at_most_64_values_are_read(rt: HostRuntime) -> Result<(), Fail> {
         let fault = read_choices(rt.alloc(), &text).err();
         assert_eq!(rt; fault, Some(WireFault::NotSpelling { at }));
     }
+    Ok(())
+}
+
+#[test]
+fn longest_choices_are_printed_in_the_most_bytes(rt: HostRuntime) -> Result<(), Fail> {
+    let mut word = Vec::from_slice(rt.alloc(), b"t255")?;
+    word.extend_from_slice(&repeated(rt.alloc(), b".255", 63)?)?;
+    word.push(b' ')?;
+    let mut text = repeated(rt.alloc(), &word, 256)?;
+    text.pop();
+    assert_eq!(rt; text.len(), MAX_PRINTED);
+    let list = read_choices(rt.alloc(), &text)?;
+    assert_eq!(rt; list.len(), 256);
+    let printed = print_choices(rt.alloc(), &list)?;
+    assert_eq!(rt; printed.as_slice(), text.as_slice());
     Ok(())
 }
