@@ -1,5 +1,5 @@
 -- What the example checks mean.
-use Rattle.std.specs.Prelude.{◌≡◌, ℕ, List, [], ◌∷◌, codes}
+use Rattle.std.specs.Prelude.{ℕ, List, [], ◌∷◌, codes}
 use Rattle.pt_choice.specs.declared.choice.Choice.{Choice}
 use Rattle.pt_choice.specs.declared.kind.Shape.TheVariants.{Bool}
 use Rattle.pt_case.specs.declared.ending.Ending.TheVariants.{Pass, Fail}
@@ -13,12 +13,10 @@ abbrev pub always_name : List ℕ
 always_name = codes "always"
 
 -- one fair boolean, and then it passes
-abbrev pub NeverStep : List Choice → Answer → Type 0
-NeverStep [] answer = answer ≡ Ask (Bool 8)
-NeverStep (first ∷ []) answer = answer ≡ End Pass
-NeverStep (first ∷ second ∷ rest) answer = ⊥
+abbrev pub never_answer : List Choice → Answer
+never_answer [] = Ask (Bool 8) [] []
+never_answer (choice ∷ choices) = End Pass [] []
 
 -- it fails at once
-abbrev pub AlwaysStep : List Choice → Answer → Type 0
-AlwaysStep [] answer = answer ≡ End (Fail (Point 1))
-AlwaysStep (first ∷ rest) answer = ⊥
+abbrev pub always_answer : List Choice → Answer
+always_answer choices = End (Fail (Point 1)) [] []

@@ -1,5 +1,5 @@
-ghost use Rattle.std.specs.Prelude.{◌≡◌};
-ghost use Rattle.pt_main.specs.Checks.{always_name, AlwaysStep};
+ghost use Rattle.std.specs.Prelude.{◌≡◌, IfOk};
+ghost use Rattle.pt_main.specs.Checks.{always_name, always_answer};
 
 use pt_case::{Case, Check, Ending, Origin};
 use pt_choice::NoMemory;
@@ -14,7 +14,9 @@ pub struct Always {
 }
 
 impl Always {
-    pub fn of(alloc: Global) -> Result<Always, NoMemory> {
+    pub fn of(alloc: Global) -> Result<Always, NoMemory>
+        ensures { IfOk result (λ check. check.name ≡ always_name) }
+    {
         match Name::of(alloc, "always") {
             Ok(name) => Ok(Always { name }),
             Err(_) => Err(NoMemory),
@@ -25,13 +27,13 @@ impl Always {
 impl Check for Always {
     ghost name = { λ check. check.name };
 
-    ghost step = { λ check. AlwaysStep };
+    ghost step = { λ check choices said. said ≡ always_answer choices };
 
     fn name(&self) -> &Name {
         &self.name
     }
 
-    fn run(&self, _case: &mut Case) -> Result<Ending, NoMemory> {
+    fn run(&self, _: &mut Case) -> Result<Ending, NoMemory> {
         Ok(Ending::Fail(Origin::Point(1)))
     }
 }

@@ -5,6 +5,8 @@ mod always;
 mod handed;
 mod never;
 mod real_files;
+#[cfg(test)]
+mod samples;
 mod std_sink;
 #[cfg(test)]
 mod tests;

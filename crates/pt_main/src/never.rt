@@ -1,5 +1,9 @@
-ghost use Rattle.std.specs.Prelude.{codes, IfOk, ◌≡◌};
-ghost use Rattle.pt_main.specs.Checks.{never_name, NeverStep};
+ghost use Rattle.std.specs.Prelude.{◌≡◌, IfOk};
+ghost use Rattle.pt_choice.specs.declared.kind.Shape.TheVariants.{Bool};
+ghost use Rattle.pt_case.specs.State.{IsNew};
+ghost use Rattle.pt_case.specs.Run.{Ran};
+ghost use Rattle.pt_case.specs.UnderWay.{ending_of};
+ghost use Rattle.pt_main.specs.Checks.{never_name, never_answer};
 
 use pt_case::{Case, Check, Ending, Stop};
 use pt_choice::{Kind, NoMemory};
@@ -14,7 +18,9 @@ pub struct Never {
 }
 
 impl Never {
-    pub fn of(alloc: Global) -> Result<Never, NoMemory> {
+    pub fn of(alloc: Global) -> Result<Never, NoMemory>
+        ensures { IfOk result (λ check. check.name ≡ never_name) }
+    {
         match Name::of(alloc, "never") {
             Ok(name) => Ok(Never { name }),
             Err(_) => Err(NoMemory),
@@ -25,19 +31,28 @@ impl Never {
 impl Check for Never {
     ghost name = { λ check. check.name };
 
-    ghost step = { λ check. NeverStep };
+    ghost step = { λ check choices said. said ≡ never_answer choices };
 
     fn name(&self) -> &Name {
         &self.name
     }
 
     fn run(&self, case: &mut Case) -> Result<Ending, NoMemory> {
-        let fair = Kind::of_bool(8).unwrap();
-        match case.draw(&fair) {
-            Err(Stop::Overrun) => return Ok(Ending::Overrun),
-            Err(Stop::NoMemory) => return Err(NoMemory),
-            Ok(_) => {}
-        }
-        Ok(Ending::Pass)
+        Ending::of(draws_one(case))
     }
+}
+
+fn draws_one(case: &mut Case) -> Result<Ending, Stop>
+    requires { IsNew case.old }
+    ensures { IfOk (ending_of result) (λ ending. Ran (λ choices said. said ≡ never_answer choices) case.old case.new ending) }
+{
+    case.draw(&fair())?;
+    Ok(Ending::Pass)
+}
+
+/// A boolean that is as often true as false.
+pub fn fair() -> Kind
+    ensures { result ≡ Bool 8 }
+{
+    Kind::of_bool(8).unwrap()
 }

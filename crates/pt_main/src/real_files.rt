@@ -1,9 +1,8 @@
 ghost use Rattle.std.specs.Prelude.{None, false};
 
 use pt_io::{Files, IoFailed};
-use std::fs::{self, OpenOptions};
 use std::io::Read;
-use std::rt;
+use std::{fs, rt};
 
 /// The files of the machine. They tell nothing of what they hold; each error counts as a fault.
 #[derive(Drop)]
@@ -20,11 +19,6 @@ impl<'a, R: rt::Files> RealFiles<'a, R> {
             chosen: None,
             faults: 0,
         }
-    }
-
-    fn fail<T>(&mut self) -> Result<T, IoFailed> {
-        self.faults = self.faults.saturating_add(1);
-        Err(IoFailed)
     }
 }
 
@@ -60,5 +54,31 @@ impl<R: rt::Files> Files for RealFiles<'_, R> {
                 Err(IoFailed)
             }
         }
+    }
+}
+
+#[cfg(test)]
+mod tests {
+    use super::*;
+    use pt_io::{ReadStop, read_whole};
+    use std::io::Write;
+    use std::test::Fail;
+
+    const NAME: &str = "a_file_of_the_test";
+
+    #[test]
+    fn a_file_of_the_machine_is_read_whole(rt: HostRuntime) -> Result<(), Fail> {
+        let alloc = rt.alloc();
+        fs::create(&rt, NAME)?.write_all(b"check never")?;
+        let mut files = RealFiles::of(&rt);
+        let read = read_whole(alloc, &mut files, NAME);
+        fs::remove_file(&rt, NAME)?;
+        let text = read.map_err(|_| "the file's bytes")?;
+        assert_eq!(rt; text.as_slice(), b"check never".as_slice());
+        assert_eq!(rt; files.faults, 0);
+        let stop = read_whole(alloc, &mut files, NAME).err();
+        assert_eq!(rt; stop, Some(ReadStop::Failed));
+        assert_eq!(rt; files.faults, 1);
+        Ok(())
     }
 }

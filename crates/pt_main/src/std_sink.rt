@@ -30,3 +30,18 @@ impl<R: Print> Sink for StdSink<'_, R> {
         }
     }
 }
+
+#[cfg(test)]
+mod tests {
+    use super::*;
+    use pt_io::write_all;
+    use std::test::Fail;
+
+    #[test]
+    fn the_standard_output_takes_a_line(rt: HostRuntime) -> Result<(), Fail> {
+        let mut sink = StdSink::of(&rt);
+        assert_eq!(rt; write_all(&mut sink, b"a line of the test\n"), Ok(()));
+        assert_eq!(rt; sink.faults, 0);
+        Ok(())
+    }
+}

@@ -1,0 +1,25 @@
+use Rattle.std.proofs.Common.{◌≡◌, [], ◌∷◌, refl, sym, ◌∙◌, ap, subst, rules}
+use Rattle.pt_choice.specs.declared.kind.Shape.TheVariants.{Bool}
+use Rattle.pt_case.specs.declared.ending.Ending.TheVariants.{Pass}
+use Rattle.pt_case.specs.Step.{Says, Ask, End}
+use Rattle.pt_case.specs.State.{State, new_state, after_draw}
+use Rattle.pt_case.specs.Run.{Ran}
+use Rattle.pt_case.specs.UnderWay.{IsUnderWay}
+use Rattle.pt_main.specs.Checks.{never_answer}
+use Rattle.pt_case.proofs.UnderWayLemmas.{new-is, under_way-new, under_way-drawn, ran-ended, says-function}
+use Rattle.pt_main.proofs.never.draws_one.Goals as goal
+
+pub returns : goal.returns
+returns c =
+    let s = c.args.case.now in
+    let drawn = c.in_ok-draw.ensures.answered in
+    let start = new-is s c.requires in
+    let asks = says-function never_answer [] in
+    let way = under_way-drawn (λ choices said. said ≡ never_answer choices) s s c.fair.result c.in_ok-draw.field-0 c.draw.new.self
+    (under_way-new _ s c.requires) (rw (c.requires.no_choices, c.fair.ensures) ([], [], asks)) drawn in
+    let now : c.draw.new.self ≡ after_draw (new_state s.left) c.fair.result c.in_ok-draw.field-0 =
+    drawn.kept ∙ ap (λ s. after_draw s c.fair.result c.in_ok-draw.field-0) start in
+    let here : State = after_draw (new_state s.left) c.fair.result c.in_ok-draw.field-0 in
+    let ended : Ran (λ choices said. said ≡ never_answer choices) s here Pass =
+    ran-ended _ s here Pass (rw now at way) (says-function never_answer (c.in_ok-draw.field-0 ∷ [])) refl in
+    rw now ended
