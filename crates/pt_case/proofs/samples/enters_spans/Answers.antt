@@ -24,8 +24,7 @@ loop-case-smaller c =
 pub loop-case-preserved : goal.loop-case-preserved
 loop-case-preserved c =
     let so_far = c.loop-case.invariant in
-    let room = rw so_far.2 at c.in_ok-enter.ensures.entered.room in
-    (
+    let room = rw so_far.2 at c.in_ok-enter.ensures.entered.room in (
       so_far.0 + 1,
       omega (arith, room, length-replicate so_far.0 left_span),
       spanned-more c.args.case.now.left so_far.0 c.loop-case.case c.enter.new.self c.leave.new.self so_far.2 c.in_ok-enter.ensures.entered c.leave.ensures,
