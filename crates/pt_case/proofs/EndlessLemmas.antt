@@ -1,20 +1,18 @@
 -- A check of the tests that enters spans without end.
-use Rattle.std.proofs.Common.{◌≡◌, ◌⊎◌, ℕ, zero, suc, ◌+◌, ◌≤◌, true, false, Some, None, List, [], ◌∷◌, ◌++◌, length, inl, inr, refl, sym, ◌∙◌, ap, subst, arith}
-use Rattle.std.specs.Prelude.{IsSome, is_some, replicate, IfOk, IsErrOf, Err, ◌≢◌, Result}
+use Rattle.std.proofs.Common.{◌≡◌, ℕ, zero, suc, ◌+◌, ◌≤◌, Some, None, List, [], ◌∷◌, ◌++◌, length, inl, inr, refl, sym, ◌∙◌, ap, arith}
+use Rattle.std.specs.Prelude.{IsSome, replicate, IfOk, IsErrOf, Err}
 use Rattle.std.proofs.lemmas.List.{replicate_more, length-replicate}
-use Rattle.pt_choice.specs.declared.choice.Choice.{Choice}
 use Rattle.pt_case.specs.declared.span.Span.{Span}
 use Rattle.pt_case.specs.declared.region.Region.{Region}
-use Rattle.pt_case.specs.declared.ending.Ending.{Ending}
 use Rattle.pt_case.specs.declared.refused.Refused.TheVariants.{Entry}
 use Rattle.pt_case.specs.declared.stop.Stop.{Stop}
 use Rattle.pt_case.specs.declared.stop.Stop.TheVariants as stop
 use Rattle.pt_case.specs.Source.{Source}
 use Rattle.pt_case.specs.Region.{innermost, leave_innermost, spans_at}
-use Rattle.pt_case.specs.Step.{Answer, Cut, Says}
-use Rattle.pt_case.specs.State.{State, IsNew, IsFilled, Entered, new_state, after_enter, after_leave, stopped_at}
+use Rattle.pt_case.specs.Step.{Cut, Says}
+use Rattle.pt_case.specs.State.{State, IsNew, IsFilled, Entered, after_enter, after_leave, stopped_at}
 use Rattle.pt_case.specs.Run.{Ran}
-use Rattle.pt_case.specs.UnderWay.{IsUnderWay, ending_of}
+use Rattle.pt_case.specs.UnderWay.{ending_of}
 use Rattle.pt_case.specs.Samples.{endless_answer}
 use Rattle.pt_case.proofs.RegionLemmas.{innermost-pushed}
 use Rattle.pt_case.proofs.UnderWayLemmas.{under_way-new, under_way-kept, ran-cut, says-function}
@@ -23,9 +21,11 @@ use Rattle.pt_case.proofs.UnderWayLemmas.{under_way-new, under_way-kept, ran-cut
 abbrev pub left_span : Region
 left_span = record { label = 1; from = 0; to = Some 0; parent = None }
 
+-- the same span before it is left
 abbrev open_span : Region
 open_span = record { label = 1; from = 0; to = None; parent = None }
 
+-- as a record shows it
 abbrev shown_span : Span
 shown_span = record { label = 1; from = 0; to = 0; parent = None }
 
@@ -33,14 +33,17 @@ shown_span = record { label = 1; from = 0; to = 0; parent = None }
 abbrev pub spanned : Source → ℕ → State
 spanned source count = record { left = source; choices = []; regions = replicate count left_span; notes = []; refused = None }
 
+-- none of them is open
 none_open : (count : ℕ) → innermost (replicate count left_span) ≡ None
 none_open zero = refl
 none_open (suc count) = rw (none_open count) refl
 
+-- the open one behind them is the one that is left
 left_one : (count : ℕ) → leave_innermost 0 (replicate count left_span ++ open_span ∷ []) ≡ replicate count left_span ++ left_span ∷ []
 left_one zero = refl
 left_one (suc count) = rw (innermost-pushed (replicate count left_span) open_span refl) (ap (λ regions. left_span ∷ regions) (left_one count))
 
+-- what a record shows of them
 shown_spans : (count : ℕ) → spans_at 0 (replicate count left_span) ≡ replicate count shown_span
 shown_spans zero = refl
 shown_spans (suc count) = ap (λ spans. shown_span ∷ spans) (shown_spans count)
@@ -59,6 +62,7 @@ spanned-more source count now inside after is entered left =
     turned ∙ rw (none_open count) (ap (λ (regions : List Region). record { left = source; choices = []; regions = regions; notes = []; refused = None })
     (left_one count ∙ replicate_more count left_span))
 
+-- so there is one more to count
 pub spanned-longer : (source : Source) (count : ℕ) (now after : State) → now ≡ spanned source count → after ≡ spanned source (count + 1) →
     length after.regions ≡ length now.regions + 1
 spanned-longer source count now after was is =

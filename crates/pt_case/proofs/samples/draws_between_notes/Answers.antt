@@ -1,4 +1,4 @@
-use Rattle.std.proofs.Common.{◌≡◌, List, Err, true, false, [], ◌∷◌, refl, sym, ◌∙◌, ap, subst, rules}
+use Rattle.std.proofs.Common.{◌≡◌, List, Err, true, false, [], ◌∷◌, refl, rules}
 use Rattle.pt_choice.specs.declared.kind.Shape.TheVariants.{Bool}
 use Rattle.pt_choice.specs.declared.choice.Choice.{Choice}
 use Rattle.pt_val.specs.declared.val.Val.TheVariants as val

@@ -1,4 +1,4 @@
-use Rattle.std.proofs.Common.{◌≡◌, ◌+◌, Err, length, refl, rules, arith}
+use Rattle.std.proofs.Common.{◌≡◌, ◌+◌, Err, rules, arith}
 use Rattle.std.proofs.lemmas.List.{length-replicate}
 use Rattle.pt_case.proofs.EndlessLemmas.{left_span, entered-open, spanned-more, spanned-longer, ran-endless}
 use Rattle.pt_case.proofs.samples.enters_spans.Goals as goal
