@@ -1,14 +1,13 @@
 -- What keeps the invariant of a case.
-use Rattle.std.proofs.Common.{◌≡◌, ℕ, ◌+◌, ◌<◌, ◌≤◌, true, Option, Some, None, unwrap_or, List, [], ◌∷◌, ◌++◌, length, map, take, refl, sym, ◌∙◌, ap, subst, arith, length-append}
-use Rattle.std.specs.Prelude.{slice_get, slice_set, is_none, All}
+use Rattle.std.proofs.Common.{◌≡◌, ℕ, ◌+◌, ◌<◌, true, Option, Some, None, List, [], ◌∷◌, ◌++◌, length, refl, sym, ◌∙◌, arith, length-append}
+use Rattle.std.specs.Prelude.{slice_get, slice_set}
 use Rattle.std.proofs.lemmas.List.{map-append}
 use Rattle.std.proofs.lemmas.Grind.{common_steps}
 use Rattle.pt_choice.specs.declared.choice.Choice.{Choice}
-use Rattle.pt_case.specs.declared.span.Span.{Span}
 use Rattle.pt_case.specs.declared.region.Region.{Region}
 use Rattle.pt_choice.specs.Limits.{IsInLimits}
-use Rattle.pt_case.specs.Placed.{IsPlaced, ArePlaced}
-use Rattle.pt_case.specs.Region.{is_open, ended, spans_at, innermost, leave_innermost}
+use Rattle.pt_case.specs.Placed.{IsPlaced}
+use Rattle.pt_case.specs.Region.{is_open, ended, spans_at, innermost}
 use Rattle.pt_case.specs.Kept.{IsKept}
 use Rattle.pt_case.proofs.PlacedLemmas.{placed-grown, placed-pushed}
 use Rattle.pt_case.proofs.RegionLemmas.{innermost-within, innermost-open, innermost-pushed, nested-pushed, leave-set, innermost-left, nested-left, spans-left}

@@ -4,3 +4,4 @@ pub mod RegionLemmas
 pub mod UnderWayLemmas
 pub mod PathLemmas
 pub mod RecordLemmas
+mod EndlessLemmas

@@ -1,12 +1,12 @@
 -- A list has one path.
-use Rattle.std.proofs.Common.{◌≡◌, ◌⊎◌, ℕ, zero, suc, ◌+◌, ◌<◌, ◌≤◌, true, Option, Some, None, List, [], ◌∷◌, ◌++◌, length, take, inl, inr, refl, sym, ◌∙◌, ap, subst, arith, length-append, append_assoc}
+use Rattle.std.proofs.Common.{◌≡◌, ◌⊎◌, ℕ, suc, ◌<◌, ◌≤◌, true, Some, None, List, [], ◌∷◌, ◌++◌, length, take, inl, inr, refl, sym, ap, subst, arith, length-append, append_assoc}
 use Rattle.std.specs.Prelude.{slice_get}
-use Rattle.pt_choice.specs.Kind.{admits, fit}
+use Rattle.pt_choice.specs.Kind.{admits}
 use Rattle.pt_choice.specs.declared.choice.Choice.{Choice}
 use Rattle.pt_choice.specs.declared.kind.Shape.{Shape}
 use Rattle.pt_choice.proofs.Admitted.{fit-kept}
 use Rattle.pt_case.specs.Source.{Source, Listed, answer_to, left_after, AnswersAll}
-use Rattle.pt_case.specs.Step.{Answer, Ask, End, Cut, Says, AsksFor, IsAsked}
+use Rattle.pt_case.specs.Step.{Answer, Ask, End, Cut, Says, AsksFor}
 use Rattle.pt_case.specs.Run.{IsFollowed, IsWhole}
 
 -- after these first choices and each of the others the check asks for these kinds

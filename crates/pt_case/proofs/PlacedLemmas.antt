@@ -1,5 +1,5 @@
 -- Spans stay placed.
-use Rattle.std.proofs.Common.{◌≡◌, ◌⊎◌, ℕ, zero, suc, ◌+◌, ◌<◌, ◌≤◌, true, Option, Some, None, unwrap_or, List, [], ◌∷◌, ◌++◌, length, map, take, inl, inr, refl, sym, ap, subst, arith}
+use Rattle.std.proofs.Common.{◌≡◌, ◌⊎◌, ℕ, zero, suc, ◌+◌, Option, Some, None, List, [], ◌∷◌, ◌++◌, length, map, take, inl, inr, refl, ap, subst, arith}
 use Rattle.std.specs.Prelude.{slice_get}
 use Rattle.pt_case.specs.declared.span.Span.{Span}
 use Rattle.pt_case.specs.declared.region.Region.{Region}

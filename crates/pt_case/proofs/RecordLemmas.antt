@@ -1,5 +1,5 @@
 -- A list has one record.
-use Rattle.std.proofs.Common.{◌≡◌, ◌≤◌, List, [], length, refl, sym, ◌∙◌, ap, subst}
+use Rattle.std.proofs.Common.{◌≡◌, ◌≤◌, List, [], length, sym, ◌∙◌, ap, subst}
 use Rattle.std.specs.Prelude.{All}
 use Rattle.std.proofs.Props.{props}
 use Rattle.pt_choice.specs.declared.choice.Choice.{Choice}

@@ -1,6 +1,6 @@
 -- How open spans nest.
-use Rattle.std.proofs.Common.{◌≡◌, ◌⊎◌, ℕ, zero, suc, ◌+◌, ◌<◌, ◌≤◌, Bool, true, false, Option, Some, None, unwrap_or, List, [], ◌∷◌, ◌++◌, length, map, take, inl, inr, refl, sym, ap, subst, arith}
-use Rattle.std.specs.Prelude.{slice_get, slice_set, is_none, is_some, if◌then◌else◌}
+use Rattle.std.proofs.Common.{◌≡◌, ◌⊎◌, ℕ, zero, suc, ◌<◌, Bool, true, false, Option, Some, None, List, [], ◌∷◌, ◌++◌, length, take, inl, inr, refl, ap, arith}
+use Rattle.std.specs.Prelude.{slice_get, slice_set, is_none, if◌then◌else◌}
 use Rattle.std.specs.Option.{option_or, option_map}
 use Rattle.pt_case.specs.declared.region.Region.{Region}
 use Rattle.pt_case.specs.Kept.{AreNested}

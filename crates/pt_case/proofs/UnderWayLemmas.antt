@@ -1,7 +1,6 @@
 -- How a run of a check goes on, and how it ends.
-use Rattle.std.proofs.Common.{◌≡◌, ◌⊎◌, ℕ, zero, suc, ◌+◌, ◌<◌, ◌≤◌, true, false, Option, Some, None, List, [], ◌∷◌, ◌++◌, length, take, inl, inr, refl, sym, ◌∙◌, ap, subst, arith, length-append}
-use Rattle.std.specs.Prelude.{slice_get, is_some, IfOk, IsErrOf, Err}
-use Rattle.std.proofs.lemmas.List.{take-append-le}
+use Rattle.std.proofs.Common.{◌≡◌, ℕ, zero, suc, ◌+◌, ◌<◌, ◌≤◌, true, false, Option, Some, None, List, [], ◌∷◌, ◌++◌, length, inl, inr, refl, sym, ◌∙◌, ap, subst, arith, length-append}
+use Rattle.std.specs.Prelude.{slice_get, IfOk, IsErrOf, Err}
 use Rattle.pt_choice.specs.Kind.{admits}
 use Rattle.pt_choice.specs.declared.choice.Choice.{Choice}
 use Rattle.pt_choice.specs.declared.kind.Shape.{Shape}
@@ -9,11 +8,11 @@ use Rattle.pt_case.specs.declared.ending.Ending.{Ending}
 use Rattle.pt_case.specs.declared.ending.Ending.TheVariants.{Overrun}
 use Rattle.pt_case.specs.declared.refused.Refused.TheVariants.{Question, Entry}
 use Rattle.pt_case.specs.Ending.{is_overrun}
-use Rattle.pt_case.specs.Source.{Source, Listed, answer_to, left_after, AnswersAll}
+use Rattle.pt_case.specs.Source.{Source, answer_to, left_after, AnswersAll}
 use Rattle.pt_case.specs.Region.{spans_at}
 use Rattle.pt_case.specs.Step.{Answer, Ask, End, Cut, Says, AsksFor, IsAsked}
 use Rattle.pt_case.specs.State.{State, IsNew, IsOver, Answered, Entered, new_state, after_draw, after_enter, after_leave, after_note, stopped_at}
-use Rattle.pt_case.specs.Run.{IsFollowed, Ran}
+use Rattle.pt_case.specs.Run.{Ran}
 use Rattle.pt_case.specs.UnderWay.{IsUnderWay, ending_of}
 use Rattle.pt_case.specs.declared.stop.Stop.{Stop}
 use Rattle.pt_case.specs.declared.stop.Stop.TheVariants as stop

@@ -1,5 +1,5 @@
 -- Spans, while a case runs and as a record shows them.
-use Rattle.std.specs.Prelude.{◌≡◌, ℕ, suc, ◌<◌, ◌≤◌, Bool, Option, Some, None, unwrap_or, is_none, is_some, List, [], ◌∷◌, map, if◌then◌else◌}
+use Rattle.std.specs.Prelude.{ℕ, suc, Bool, Option, Some, None, unwrap_or, is_none, is_some, List, [], ◌∷◌, map, if◌then◌else◌}
 use Rattle.std.specs.Option.{option_or, option_map}
 use Rattle.pt_case.specs.declared.span.Span.{Span}
 use Rattle.pt_case.specs.declared.region.Region.{Region}

@@ -1,5 +1,5 @@
 -- What a case has come to while its run goes.
-use Rattle.std.specs.Prelude.{◌≡◌, ◌⊎◌, ◌<◌, ◌≤◌, ℕ, true, Bool, Option, Some, None, is_some, List, [], ◌∷◌, ◌++◌, length}
+use Rattle.std.specs.Prelude.{◌≡◌, ◌⊎◌, ◌<◌, ◌≤◌, ℕ, true, Option, Some, None, is_some, List, [], ◌∷◌, ◌++◌, length}
 use Rattle.std.specs.Option.{option_or}
 use Rattle.pt_choice.specs.Kind.{admits}
 use Rattle.pt_choice.specs.declared.choice.Choice.{Choice}
@@ -7,7 +7,7 @@ use Rattle.pt_choice.specs.declared.kind.Shape.{Shape}
 use Rattle.pt_case.specs.declared.note.Note.{Note}
 use Rattle.pt_case.specs.declared.region.Region.{Region}
 use Rattle.pt_case.specs.declared.refused.Refused.{Refused}
-use Rattle.pt_case.specs.Source.{Source, Listed, answer_to, left_after, AnswersAll}
+use Rattle.pt_case.specs.Source.{Source, Listed, answer_to, left_after}
 use Rattle.pt_case.specs.Region.{innermost, leave_innermost}
 
 -- where the next answers come from, what was made so far, and what the case refused, if it did

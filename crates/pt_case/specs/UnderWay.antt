@@ -1,5 +1,5 @@
 -- A run of a check before its end.
-use Rattle.std.specs.Prelude.{◌≡◌, Result, Ok, Err, Option, None, List}
+use Rattle.std.specs.Prelude.{◌≡◌, Result, Ok, Err, None, List}
 use Rattle.pt_choice.specs.declared.choice.Choice.{Choice}
 use Rattle.pt_choice.specs.declared.kind.Shape.{Shape}
 use Rattle.pt_choice.specs.declared.memory.NoMemory.{NoMemory}

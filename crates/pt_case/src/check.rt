@@ -3,7 +3,7 @@ ghost use Rattle.pt_choice.specs.declared.choice.Choice.{Choice};
 ghost use Rattle.pt_rng.specs.Supplied.{supply_of_run};
 ghost use Rattle.pt_case.specs.Step.{Answer};
 ghost use Rattle.pt_case.specs.State.{IsNew};
-ghost use Rattle.pt_case.specs.Run.{Ran, IsRecord, IsRun, AsksAfter};
+ghost use Rattle.pt_case.specs.Run.{Ran, IsRecordOver, IsRecord, IsRun, AsksAfter};
 
 use crate::{Case, Ending, Record};
 use pt_choice::{Choices, Kind, NoMemory};
@@ -49,16 +49,21 @@ impl Check for Box<dyn Check> {
 pub fn replay<C: Check>(alloc: Global, check: &C, list: &Choices) -> Result<Record, NoMemory>
     ensures { IfOk result (λ rec. IsRecord (C.step check.now) list.now rec) }
 {
-    let mut case = Case::replay(alloc, list)?;
-    let ending = check.run(&mut case)?;
-    Ok(case.finish(ending))
+    recorded(check, Case::replay(alloc, list)?)
 }
 
 /// The record of a numbered run.
 pub fn fresh<C: Check>(alloc: Global, check: &C, seed: u64, run: u64) -> Result<Record, NoMemory>
     ensures { IfOk result (λ rec. IsRun (C.step check.now) (supply_of_run seed run) rec) }
 {
-    let mut case = Case::fresh(alloc, Supply::of_run(seed, run))?;
+    recorded(check, Case::fresh(alloc, Supply::of_run(seed, run))?)
+}
+
+// The record of the check's run on a new case.
+fn recorded<C: Check>(check: &C, mut case: Case) -> Result<Record, NoMemory>
+    requires { IsNew case }
+    ensures { IfOk result (λ rec. IsRecordOver (C.step check.now) case.left rec) }
+{
     let ending = check.run(&mut case)?;
     Ok(case.finish(ending))
 }

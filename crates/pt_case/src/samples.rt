@@ -5,11 +5,11 @@ ghost use Rattle.pt_choice.specs.declared.kind.Shape.TheVariants.{Bool, Int};
 ghost use Rattle.pt_case.specs.State.{IsNew};
 ghost use Rattle.pt_case.specs.Run.{Ran};
 ghost use Rattle.pt_case.specs.UnderWay.{ending_of};
-ghost use Rattle.pt_case.specs.Samples.{never_answer, always_answer, nested_answer};
+ghost use Rattle.pt_case.specs.Samples.{never_answer, always_answer, nested_answer, endless_answer, noted_answer};
 
 use crate::{Case, Check, Ending, Origin, Stop};
 use pt_choice::{Kind, NoMemory};
-use pt_val::Name;
+use pt_val::{Name, Val};
 
 fn flag() -> Kind
     ensures { result ≡ Bool 8 }
@@ -104,5 +104,65 @@ fn draws_nested(case: &mut Case) -> Result<Ending, Stop>
     case.leave();
     case.leave();
     case.leave();
+    Ok(Ending::Pass)
+}
+
+/// Enters spans without end, and leaves each at once.
+#[derive(Drop)]
+pub(crate) struct Endless {
+    pub(crate) name: Name,
+}
+
+impl Check for Endless {
+    ghost name = { λ check. check.name };
+
+    ghost step = { λ check choices said. said ≡ endless_answer choices };
+
+    fn name(&self) -> &Name {
+        &self.name
+    }
+
+    fn run(&self, case: &mut Case) -> Result<Ending, NoMemory> {
+        Ending::of(enters_spans(case))
+    }
+}
+
+fn enters_spans(case: &mut Case) -> Result<Ending, Stop>
+    requires { IsNew case.old }
+    ensures { IfOk (ending_of result) (λ ending. Ran (λ choices said. said ≡ endless_answer choices) case.old case.new ending) }
+{
+    loop {
+        case.enter(1)?;
+        case.leave();
+    }
+}
+
+/// Notes its name with true, draws a boolean, and notes it with false.
+#[derive(Drop)]
+pub(crate) struct Noted {
+    pub(crate) name: Name,
+}
+
+impl Check for Noted {
+    ghost name = { λ check. check.name };
+
+    ghost step = { λ check choices said. said ≡ noted_answer check.name choices };
+
+    fn name(&self) -> &Name {
+        &self.name
+    }
+
+    fn run(&self, case: &mut Case) -> Result<Ending, NoMemory> {
+        Ending::of(draws_between_notes(&self.name, case))
+    }
+}
+
+fn draws_between_notes(name: &Name, case: &mut Case) -> Result<Ending, Stop>
+    requires { IsNew case.old }
+    ensures { IfOk (ending_of result) (λ ending. Ran (λ choices said. said ≡ noted_answer name.now choices) case.old case.new ending) }
+{
+    case.note(name.copy()?, Val::Bool(true))?;
+    case.draw(&flag())?;
+    case.note(name.copy()?, Val::Bool(false))?;
     Ok(Ending::Pass)
 }

@@ -1,11 +1,11 @@
 //! Records of replays and fresh runs, and cases at their limits, with values worked by hand.
 
-use crate::samples::{Always, Nested, Never};
+use crate::samples::{Always, Endless, Nested, Never, Noted};
 use crate::{Case, Check, Ending, Note, Origin, Record, Span, Stop, asks, fresh, replay};
 use Sample::{Flag, Number};
 use pt_choice::{Choice, Choices, Kind, NoMemory, Shape};
 use pt_rng::Supply;
-use pt_val::{Name, NameStop, Val};
+use pt_val::{Name, NameStop, Val, same};
 use std::alloc::Global;
 use std::process::Abort;
 use std::test::Fail;
@@ -46,6 +46,16 @@ fn nested(alloc: Global) -> Result<Nested, NameStop> {
     Ok(Nested { name })
 }
 
+// The kind that the check asks for after this list's record.
+fn asked<C: Check>(
+    alloc: Global,
+    check: &C,
+    samples: &[Sample],
+) -> Result<Option<Shape>, NoMemory> {
+    let kind = asks(alloc, check, &list(alloc, samples)?)?;
+    Ok(kind.map(|kind| kind.shape()))
+}
+
 fn expect_whole(rt: &impl Abort, rec: &Record, choices: &Choices) {
     assert_eq!(rt; rec.choices.as_slice(), choices.as_slice());
     assert_eq!(rt; rec.ending, Ending::Pass);
@@ -66,7 +76,23 @@ fn a_list_is_made_to_fit(rt: HostRuntime) -> Result<(), Fail> {
     let given = list(alloc, &[Number(7), Number(12), Flag(true), Flag(true)])?;
     let fitted = list(alloc, &[Flag(false), Number(0), Flag(true)])?;
     expect_whole(&rt, &replay(alloc, &nested, &given)?, &fitted);
-    assert!(rt; asks(alloc, &nested, &given)?.is_none());
+    Ok(())
+}
+
+#[test]
+fn a_check_asks_after_the_record_of_a_list(rt: HostRuntime) -> Result<(), Fail> {
+    let alloc = rt.alloc();
+    let nested = nested(alloc)?;
+    assert_eq!(rt; asked(alloc, &nested, &[])?, Some(FLAG));
+    assert_eq!(rt; asked(alloc, &nested, &[Flag(true)])?, Some(DIGIT));
+    assert_eq!(rt;
+        asked(alloc, &nested, &[Number(7), Number(12)])?,
+        Some(FLAG)
+    );
+    let whole = [Flag(true), Number(4), Flag(false)];
+    assert_eq!(rt; asked(alloc, &nested, &whole)?, None);
+    let longer = [Number(7), Number(12), Flag(true), Flag(true)];
+    assert_eq!(rt; asked(alloc, &nested, &longer)?, None);
     Ok(())
 }
 
@@ -83,8 +109,19 @@ fn a_list_that_is_too_short_overruns(rt: HostRuntime) -> Result<(), Fail> {
     let given = list(alloc, &[Flag(true)])?;
     let spans = [span(1, 0, 1, None), span(2, 1, 1, Some(0))];
     expect_cut(&rt, &replay(alloc, &nested, &given)?, &given, &spans);
-    let kind = asks(alloc, &nested, &given)?.ok_or("a question")?;
-    assert_eq!(rt; kind.shape(), DIGIT);
+    Ok(())
+}
+
+#[test]
+fn a_check_that_enters_a_span_too_many_is_cut(rt: HostRuntime) -> Result<(), Fail> {
+    let alloc = rt.alloc();
+    let name = Name::of(alloc, "endless")?;
+    let endless = Endless { name };
+    let spans = [span(1, 0, 0, None); 1024];
+    let none = Choices::empty(alloc);
+    let given = list(alloc, &[Flag(true)])?;
+    expect_cut(&rt, &replay(alloc, &endless, &given)?, &none, &spans);
+    assert_eq!(rt; asked(alloc, &endless, &[])?, None);
     Ok(())
 }
 
@@ -94,10 +131,9 @@ fn a_check_asks_and_passes(rt: HostRuntime) -> Result<(), Fail> {
     let name = Name::of(alloc, "never")?;
     let never = Never { name };
     assert_eq!(rt; never.name().as_slice(), b"never".as_slice());
-    let kind = asks(alloc, &never, &Choices::empty(alloc))?.ok_or("a question")?;
-    assert_eq!(rt; kind.shape(), FLAG);
+    assert_eq!(rt; asked(alloc, &never, &[])?, Some(FLAG));
+    assert_eq!(rt; asked(alloc, &never, &[Flag(true)])?, None);
     let given = list(alloc, &[Flag(true)])?;
-    assert!(rt; asks(alloc, &never, &given)?.is_none());
     let rec = replay(alloc, &never, &given)?.copy()?;
     assert_eq!(rt; rec.choices.as_slice(), given.as_slice());
     assert!(rt; rec.ending.is_pass());
@@ -118,7 +154,7 @@ fn a_boxed_check_fails(rt: HostRuntime) -> Result<(), Fail> {
     let given = list(alloc, &[Number(1)])?;
     expect_failure(&rt, &replay(alloc, &always, &given)?);
     expect_failure(&rt, &fresh(alloc, &always, 1, 0)?);
-    assert!(rt; asks(alloc, &always, &given)?.is_none());
+    assert_eq!(rt; asked(alloc, &always, &[])?, None);
     Ok(())
 }
 
@@ -166,6 +202,29 @@ fn notes_before_and_after_an_overrun_stay(rt: HostRuntime) -> Result<(), Fail> {
             })
         )
     );
+    Ok(())
+}
+
+fn expect_notes(rt: &impl Abort, rec: &Record, ending: Ending, values: &[bool]) {
+    assert_eq!(rt; rec.ending, ending);
+    assert_eq!(rt; rec.notes.len(), values.len());
+    for (note, value) in rec.notes.as_slice().iter().zip(values) {
+        assert_eq!(rt; note.name.as_slice(), b"noted".as_slice());
+        assert!(rt; same(&note.val, &Val::Bool(*value)));
+    }
+}
+
+#[test]
+fn the_notes_so_far_are_in_the_record(rt: HostRuntime) -> Result<(), Fail> {
+    let alloc = rt.alloc();
+    let name = Name::of(alloc, "noted")?;
+    let noted = Noted { name };
+    let rec = replay(alloc, &noted, &Choices::empty(alloc))?;
+    expect_notes(&rt, &rec, Ending::Overrun, &[true]);
+    assert_eq!(rt; asked(alloc, &noted, &[])?, Some(FLAG));
+    let rec = replay(alloc, &noted, &list(alloc, &[Flag(true)])?)?;
+    expect_notes(&rt, &rec, Ending::Pass, &[true, false]);
+    assert_eq!(rt; asked(alloc, &noted, &[Flag(true)])?, None);
     Ok(())
 }
 

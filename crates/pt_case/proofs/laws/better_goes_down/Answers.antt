@@ -1,5 +1,5 @@
 use Rattle.std.proofs.Common.{◌∙◌, sym, subst, inl, inr, ap}
-use Rattle.pt_choice.specs.Order.{shortlex, IsShorter}
+use Rattle.pt_choice.specs.Order.{IsShorter}
 use Rattle.pt_choice.proofs.OrderLemmas.{shortlex-total}
 use Rattle.pt_case.specs.Ending.{is_failure}
 use Rattle.pt_case.proofs.laws.better_goes_down.Goals as goal

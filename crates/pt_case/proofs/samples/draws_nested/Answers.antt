@@ -1,4 +1,4 @@
-use Rattle.std.proofs.Common.{◌≡◌, List, pos, Err, [], ◌∷◌, refl, sym, ◌∙◌, ap, subst, rules}
+use Rattle.std.proofs.Common.{◌≡◌, List, pos, Err, [], ◌∷◌, refl, rules}
 use Rattle.pt_choice.specs.declared.kind.Shape.TheVariants.{Bool, Int}
 use Rattle.pt_choice.specs.declared.choice.Choice.{Choice}
 use Rattle.pt_case.specs.Step.{Answer}

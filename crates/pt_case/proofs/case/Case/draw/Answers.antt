@@ -1,4 +1,4 @@
-use Rattle.std.proofs.Common.{◌≡◌, length, refl, sym, ◌∙◌, ap, arith}
+use Rattle.std.proofs.Common.{◌≡◌, length, sym, ◌∙◌, ap, arith}
 use Rattle.pt_choice.specs.Limits.{IsInLimits}
 use Rattle.pt_case.proofs.KeptLemmas.{kept-drawn}
 use Rattle.pt_case.proofs.case.Case.draw.Goals as goal

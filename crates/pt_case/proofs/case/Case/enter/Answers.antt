@@ -1,6 +1,5 @@
-use Rattle.std.proofs.Common.{◌≡◌, Some, None, length, refl, sym, ◌∙◌, ap, arith}
+use Rattle.std.proofs.Common.{◌≡◌, None, length, refl, sym, ◌∙◌, ap, arith}
 use Rattle.pt_case.specs.declared.region.Region.{Region}
-use Rattle.pt_case.specs.Kept.{IsKept}
 use Rattle.pt_case.proofs.KeptLemmas.{kept-entered}
 use Rattle.pt_case.proofs.case.Case.enter.Goals as goal
 

@@ -2,7 +2,6 @@ use Rattle.std.proofs.Common.{◌≡◌, Some, length, refl, sym, ◌∙◌, ap,
 use Rattle.std.specs.Prelude.{slice_get}
 use Rattle.std.proofs.lemmas.Option.{slice_get_read}
 use Rattle.pt_case.specs.Region.{innermost}
-use Rattle.pt_case.specs.Kept.{IsKept}
 use Rattle.pt_case.proofs.KeptLemmas.{kept-left}
 use Rattle.pt_case.proofs.RegionLemmas.{innermost-within, leave-set}
 use Rattle.pt_case.proofs.case.Case.leave.Goals as goal

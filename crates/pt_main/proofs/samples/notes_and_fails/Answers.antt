@@ -1,0 +1,42 @@
+use Rattle.std.proofs.Common.{◌≡◌, List, Err, pos, [], ◌∷◌, refl, rules}
+use Rattle.pt_choice.specs.declared.kind.Shape.TheVariants.{Bool}
+use Rattle.pt_choice.specs.declared.choice.Choice.{Choice}
+use Rattle.pt_val.specs.declared.val.Val.TheVariants as val
+use Rattle.pt_case.specs.declared.ending.Ending.TheVariants.{Fail}
+use Rattle.pt_case.specs.declared.ending.Origin.TheVariants.{Point}
+use Rattle.pt_case.specs.declared.note.Note.{Note}
+use Rattle.pt_case.specs.Step.{Answer}
+use Rattle.pt_case.specs.State.{State, new_state, after_draw, after_note}
+use Rattle.pt_case.specs.Run.{Ran}
+use Rattle.pt_main.specs.Samples.{noting_answer}
+use Rattle.pt_case.proofs.UnderWayLemmas.{new-is, under_way-new, note-on, draw-on, ran-stopped, ran-ended, says-function}
+use Rattle.pt_main.proofs.samples.notes_and_fails.Goals as goal
+
+pub returns-in_err-draw : goal.returns-in_err-draw
+returns-in_err-draw c =
+    let s = c.args.case.now in
+    let step : List Choice → Answer → Type 0 = λ choices said. said ≡ noting_answer c.args.name.now choices in
+    let before : Note = record { name = c.args.name.now; val = val.Int (pos 1) } in
+    let w1 = note-on step s s (new_state s.left) before c.note.new.self (under_way-new step s c.requires) (new-is s c.requires)
+    (rw c.in_ok-copy.ensures at c.in_ok-note.ensures.noted) in
+    let gave : c.from_residual-in_err-draw.result ≡ Err c.in_err-draw.field-0.0 = search rules in
+    rw gave (ran-stopped step s c.note.new.self c.fair.result c.draw.new.self c.in_err-draw.field-0.0 w1.0
+    (rw (w1.1, c.fair.ensures) (says-function (noting_answer c.args.name.now) [])) c.in_err-draw.ensures.overrun.0 c.in_err-draw.ensures.stopped)
+
+pub returns : goal.returns
+returns c =
+    let s = c.args.case.now in
+    let step : List Choice → Answer → Type 0 = λ choices said. said ≡ noting_answer c.args.name.now choices in
+    let before : Note = record { name = c.args.name.now; val = val.Int (pos 1) } in
+    let behind : Note = record { name = c.args.name.now; val = val.Int (pos 2) } in
+    let w1 = note-on step s s (new_state s.left) before c.note.new.self (under_way-new step s c.requires) (new-is s c.requires)
+    (rw c.in_ok-copy.ensures at c.in_ok-note.ensures.noted) in
+    let a = c.in_ok-draw.field-0 in
+    let here : State = after_note (new_state s.left) before in
+    let w2 = draw-on step s c.note.new.self here (Bool 8) a c.draw.new.self w1.0 w1.1 (_, _, says-function (noting_answer c.args.name.now) [])
+    (rw c.fair.ensures at c.in_ok-draw.ensures.answered) in
+    let w3 = note-on step s c.draw.new.self (after_draw here (Bool 8) a) behind c.note-2.new.self w2.0 w2.1
+    (rw c.in_ok-copy-2.ensures at c.in_ok-note-2.ensures.noted) in
+    let done : State = after_note (after_draw here (Bool 8) a) behind in
+    let ended : Ran step s done (Fail (Point 2)) = ran-ended step s done (Fail (Point 2)) (rw w3.1 at w3.0) (says-function (noting_answer c.args.name.now) (a ∷ [])) refl in
+    rw w3.1 ended
