@@ -1,5 +1,5 @@
 -- Which message is due.
-use Rattle.std.specs.Prelude.{◌≡◌, ◌≢◌, ◌⊎◌, ℕ, ◌<◌, ◌≤◌, true, List, length, Option, Some, String}
+use Rattle.std.specs.Prelude.{◌≡◌, ◌≢◌, ◌⊎◌, ℕ, ◌<◌, ◌≤◌, true, List, length, Option, Some, String, slice_get}
 use Rattle.std.specs.declared.alloc.Global.{Global}
 use Rattle.pt_choice.specs.declared.choice.Choice.{Choice}
 use Rattle.pt_case.specs.Step.{Answer}
@@ -23,11 +23,13 @@ SaysOf (Replay suite item list) name step runs (Replayed shown rec) = (name ≡ 
 SaysOf (Replay suite item list) name step runs (Refused UnknownItem) = name ≢ item
 SaysOf other name step runs message = ⊥
 
--- The suite names a check of which the message is true.
+-- The suite names a check, one of those handed in, of which the message is true.
 pub record IsTold {C : Type 0} (name : C → List ℕ) (step : C → List Choice → Answer → Type 0) (checks : List C)
     (files : Shown) (asked : Asked) (message : Message) : Type 0 where
   pub check : C
   pub runs : ℕ
+  pub place : ℕ
+  pub handed_in : slice_get checks place ≡ Some check
   pub named : HasBytes files (suite_of asked) (λ bytes. Names name checks bytes check runs)
   pub says : SaysOf asked (name check) (step check) runs message
 
