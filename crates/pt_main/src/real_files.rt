@@ -1,4 +1,4 @@
-ghost use Rattle.std.specs.Prelude.{None, false};
+ghost use Rattle.std.specs.Prelude.{◌≡◌, None, false};
 
 use pt_io::{Files, IoFailed};
 use std::io::Read;
@@ -13,7 +13,10 @@ pub struct RealFiles<'a, R: rt::Files> {
 }
 
 impl<'a, R: rt::Files> RealFiles<'a, R> {
-    pub fn of(rt: &'a R) -> RealFiles<'a, R> {
+    /// No file is chosen yet, and no fault is counted.
+    pub fn of(rt: &'a R) -> RealFiles<'a, R>
+        ensures { result.faults ≡ 0 }
+    {
         RealFiles {
             rt,
             chosen: None,

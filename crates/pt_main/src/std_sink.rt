@@ -1,4 +1,4 @@
-ghost use Rattle.std.specs.Prelude.{None};
+ghost use Rattle.std.specs.Prelude.{◌≡◌, None};
 
 use pt_io::{IoFailed, Sink};
 use std::io::{self, Write};
@@ -12,7 +12,10 @@ pub struct StdSink<'a, R: Print> {
 }
 
 impl<'a, R: Print> StdSink<'a, R> {
-    pub fn of(rt: &'a R) -> StdSink<'a, R> {
+    /// No fault is counted yet.
+    pub fn of(rt: &'a R) -> StdSink<'a, R>
+        ensures { result.faults ≡ 0 }
+    {
         StdSink { rt, faults: 0 }
     }
 }
