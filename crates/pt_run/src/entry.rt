@@ -32,7 +32,7 @@ pub fn top<F: Files, K: Sink, C: Check>(
         × IsAnswer C.name C.step checks.now (F.shows files.old) (F.shows files.new) words.now message
         × Tells message finish (K.shows sink.old) (K.shows sink.new)) }
 
-    // Nothing of the outside is called before the words are read.
+    // Where the words ask for nothing, the files are as they were.
     ensures untouched { AskNothing words.now → files.new ≡ files.old }
 
     // Where the words ask for what can be done, and no fault is counted, it is done.
