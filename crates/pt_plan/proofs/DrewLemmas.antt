@@ -47,6 +47,11 @@ pub leads-asked : {A E : Type 0} {halt : E → Option Halt} {plan : Plan A} {nex
     Drew halt (Asks kind (λ choice. Gives choice)) now after (Ok choice) → Leads plan old (Asks kind next) now → Leads plan old (next choice) after
 leads-asked {next = next} drew way = leads-call drew next way
 
+-- after a call whose value is not used
+pub leads-unused : {A B E : Type 0} {halt : E → Option Halt} {part : Plan A} {plan rest : Plan B} {old now after : State} {value : A} →
+    Drew halt part now after (Ok value) → Leads plan old (and_then part (λ value. rest)) now → Leads plan old rest after
+leads-unused {A = A} {rest = rest} drew way = leads-call drew (λ (value : A). rest) way
+
 -- after a span was entered, and left
 pub leads-entered : {A E : Type 0} {halt : E → Option Halt} {plan rest : Plan A} {old now after : State} {label : ℕ} →
     Drew {A = Unit {0}} halt (Enters label (Gives tt)) now after (Ok tt) → Leads plan old (Enters label rest) now → Leads plan old rest after
@@ -108,21 +113,33 @@ pub stop-means : (why : Stop) → draw_halt (draw_stop_of why) ≡ case_halt why
 stop-means case.Overrun = refl
 stop-means case.NoMemory = refl
 
--- at a question, a span and a note that a case refused, in a draw
+-- at a call that gives a case's own errors, in a draw
+pub drew-stopped : {A B : Type 0} {part : Plan A} {plan : Plan B} {old now after : State} {why : Stop} →
+    Drew case_halt part now after (Err why) → (next : A → Plan B) → Leads plan old (and_then part next) now →
+    Drew draw_halt plan old after (Err (draw_stop_of why))
+drew-stopped {why = why} drew next way = drew-from (stop-means why) drew next way
+
+-- the same where its value would not be used
+pub drew-unused : {A B : Type 0} {part : Plan A} {plan : Plan B} {old now after : State} {why : Stop} →
+    Drew case_halt part now after (Err why) → (rest : Plan B) → Leads plan old (and_then part (λ value. rest)) now →
+    Drew draw_halt plan old after (Err (draw_stop_of why))
+drew-unused {A = A} drew rest way = drew-stopped drew (λ (value : A). rest) way
+
+-- at a question, a span and a note
 pub drew-asked : {A : Type 0} {plan : Plan A} {next : Choice → Plan A} {old now after : State} {kind : Shape} {why : Stop} →
     Drew case_halt (Asks kind (λ choice. Gives choice)) now after (Err why) → Leads plan old (Asks kind next) now →
     Drew draw_halt plan old after (Err (draw_stop_of why))
-drew-asked {next = next} {why = why} drew way = drew-from (stop-means why) drew next way
+drew-asked {next = next} drew way = drew-stopped drew next way
 
 pub drew-entered : {A : Type 0} {plan rest : Plan A} {old now after : State} {label : ℕ} {why : Stop} →
     Drew {A = Unit {0}} case_halt (Enters label (Gives tt)) now after (Err why) → Leads plan old (Enters label rest) now →
     Drew draw_halt plan old after (Err (draw_stop_of why))
-drew-entered {rest = rest} {why = why} drew way = drew-from (stop-means why) drew (λ (u : Unit {0}). rest) way
+drew-entered {rest = rest} drew way = drew-stopped drew (λ (u : Unit {0}). rest) way
 
 pub drew-noted : {A : Type 0} {plan rest : Plan A} {old now after : State} {note : Note} {why : Stop} →
     Drew {A = Unit {0}} case_halt (Notes note (Gives tt)) now after (Err why) → Leads plan old (Notes note rest) now →
     Drew draw_halt plan old after (Err (draw_stop_of why))
-drew-noted {rest = rest} {why = why} drew way = drew-from (stop-means why) drew (λ (u : Unit {0}). rest) way
+drew-noted {rest = rest} drew way = drew-stopped drew (λ (u : Unit {0}). rest) way
 
 -- at a last call, which is all that is left
 pub drew-rest : {A E : Type 0} {halt : E → Option Halt} {plan rest : Plan A} {old now after : State} {result : Result A E} →

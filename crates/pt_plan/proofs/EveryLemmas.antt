@@ -1,9 +1,11 @@
 -- What holds on every way through a plan.
-use Rattle.std.proofs.Common.{◌≡◌, ℕ, zero, suc, ◌+◌, true, Option, Some, None, Result, Ok, Err, List, [], ◌∷◌, ◌++◌, length, inl, inr, refl, sym, ◌∙◌, ap, subst, arith, append_assoc}
+use Rattle.std.proofs.Common.{◌≡◌, ◌≤ℤ◌, ℕ, ℤ, zero, suc, ◌+◌, true, Option, Some, None, Result, Ok, Err, List, [], ◌∷◌, ◌++◌, length, inl, inr, refl, sym, ◌∙◌, ap, subst, arith, append_assoc}
 use Rattle.std.proofs.lemmas.List.{append-nil}
-use Rattle.std.specs.Prelude.{IfOk, IsSome}
+use Rattle.std.proofs.lemmas.Grind.{common_steps}
+use Rattle.std.specs.Prelude.{◌&&◌, int_le, IfOk, IsSome}
 use Rattle.pt_choice.specs.Kind.{admits}
 use Rattle.pt_choice.specs.declared.choice.Choice.{Choice}
+use Rattle.pt_choice.specs.declared.choice.Choice.TheVariants as choice
 use Rattle.pt_case.specs.declared.note.Note.{Note}
 use Rattle.pt_case.specs.declared.region.Region.{Region}
 use Rattle.pt_case.specs.declared.span.Span.{Span}
@@ -11,6 +13,7 @@ use Rattle.pt_case.specs.Region.{innermost, leave_innermost, spans_at}
 use Rattle.pt_case.specs.State.{State, after_leave, after_note}
 use Rattle.pt_plan.specs.Halt.{Halt}
 use Rattle.pt_plan.specs.Plan.{Plan, Gives, Rejects, Faults, Asks, Enters, Leaves, Notes, and_then, within}
+use Rattle.pt_plan.specs.Asked.{asked_integer}
 use Rattle.pt_plan.specs.Came.{Came}
 use Rattle.pt_plan.specs.Mark.{Derived, entered, mark_from}
 use Rattle.pt_plan.specs.Every.{GivesOnly, IsBalancedAt, IsBalanced, NotesNothing}
@@ -179,3 +182,13 @@ pub returns-open : (old new : State) → ReturnsSpans old new → open_spans new
 returns-open old new returns =
     ap (λ rs. open_before 0 rs []) returns.kept ∙ open_before-append 0 old.regions returns.added []
     ∙ open_before-none _ returns.added (open_before 0 old.regions []) returns.left
+
+-- an integer that is asked for is within its bounds
+pub integer-within : (lo hi : ℤ) → GivesOnly (λ number. (lo ≤ℤ number) × (number ≤ℤ hi)) (asked_integer lo hi)
+integer-within lo hi (choice.Int number) admitted = within-bounds lo hi number admitted
+  where
+    within-bounds : (lo hi number : ℤ) → int_le lo number && int_le number hi ≡ true → (lo ≤ℤ number) × (number ≤ℤ hi)
+    within-bounds lo hi number both = grind (arith, common_steps)
+integer-within lo hi (choice.Bool flag) admitted = cc
+integer-within lo hi (choice.Bytes bytes) admitted = cc
+integer-within lo hi (choice.Text places) admitted = cc

@@ -1,4 +1,5 @@
 pub mod Plan
+pub mod Asked
 pub mod Halt
 pub mod Stop
 pub mod Came

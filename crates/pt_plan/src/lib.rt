@@ -5,11 +5,13 @@
 //! answers of a check that goes by a plan are read off that plan.
 #![tactic(auto)]
 
+mod asking;
 mod calls;
 mod ended;
 mod laws;
 mod stop;
 
+pub use asking::{ask_flag, ask_integer};
 pub use calls::{ask, enter, leave, note};
 pub use ended::ending_of;
 pub use laws::{

@@ -3,6 +3,11 @@
 //! They stand apart from the crates that they test, since a crate with tests is proved twice.
 #![tactic(auto)]
 
+mod nested;
+mod plans;
+mod rising;
+mod small;
+
 #[cfg(test)]
 mod kinds;
 #[cfg(test)]

@@ -11,5 +11,5 @@ opens : (result : Result (Unit {0}) Stop) (old new : State) (label : ℕ) → On
 opens (Ok u) old new label entered = rw entered.kept (open-entered old.regions _ refl)
 opens (Err why) old new label entered = tt
 
-pub returns-clause-open : goal.returns-clause-open
-returns-clause-open c = opens c.enter.result c.args.case.now c.enter.new.self c.args.label c.enter.ensures.entered
+pub returns-clause-entered : goal.returns-clause-entered
+returns-clause-entered c = opens c.enter.result c.args.case.now c.enter.new.self c.args.label c.enter.ensures.entered
