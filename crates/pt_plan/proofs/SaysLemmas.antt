@@ -35,10 +35,10 @@ says-mark whole rest now mark on is uncut =
     says-plan whole now.choices (answer_at mark) (rw (cut-here whole rest now None on uncut, marked-here whole rest now mark on is) refl)
 
 -- and where it is cut
-says-cut : (whole : Plan Ending) (label : ℕ) (next : Plan Ending) (now : State) → GoesOn whole (Enters label next) now → 1024 ≤ length now.regions →
+says-cut : (whole : Plan Ending) (label : ℕ) (next : Plan Ending) (now : State) → GoesOn whole (Enters label next) now → length now.regions ≡ 1024 →
     Says (plan_says whole) now.choices (Cut (spans_at (length now.choices) now.regions) now.notes)
 says-cut whole label next now on many =
-    says-plan whole now.choices _ (rw (cut-here whole (Enters label next) now _ on (cut-full label next now on.few many)) refl)
+    says-plan whole now.choices _ (rw (cut-here whole (Enters label next) now _ on (cut-full label next now many)) refl)
 
 -- no plan's value is an overrun
 abbrev pub SettlesAt : Result Ending Halt → Type 0
@@ -77,8 +77,8 @@ ran-from whole (Enters label next) start now new outcome way on settles came = e
       (under_way-kept _ start now h.0 way (ap (λ s. s.left) e) (ap (λ s. s.choices) e) (ap (λ s. s.refused) e))
       (goes_on-entered whole label next now h.0 on h.1) settles h.2
   | inr h ↦
-      let many : 1024 ≤ length now.regions = elim h.1 [ inl g ↦ let stuck = rw on.going at g in cc | inr g ↦ g ] in
-      rw h.0 (ran-cut _ start now new way (says-cut whole label next now on many) h.2)
+      let many : length now.regions ≡ 1024 = elim h.1 [ inl g ↦ let stuck = rw on.going at g in cc | inr g ↦ g ] in
+      rw h.0 (ran-cut _ start now new way (says-cut whole label next now on many) h.1 h.2)
 ]
 ran-from whole (Leaves next) start now new outcome way on settles came =
     ran-from whole next start (after_leave now) new outcome (under_way-kept _ start now (after_leave now) way refl refl refl)

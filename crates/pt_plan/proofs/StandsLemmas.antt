@@ -22,7 +22,6 @@ use Rattle.pt_plan.proofs.MarkLemmas.{mark-admitted, cut-admitted, length-left}
 -- what stands of the rest.
 pub record GoesOn {A : Type 0} (whole rest : Plan A) (now : State) : Type 0 where
   pub going : now.refused ≡ None
-  pub few : length now.regions ≤ 1024
   pub marks : (choices : List Choice) → mark_from whole 0 [] [] (now.choices ++ choices) ≡ mark_from rest (length now.choices) now.regions now.notes choices
   pub cuts : (choices : List Choice) → cut_from 1024 whole 0 [] [] (now.choices ++ choices) ≡ cut_from 1024 rest (length now.choices) now.regions now.notes choices
 
@@ -30,7 +29,6 @@ pub record GoesOn {A : Type 0} (whole rest : Plan A) (now : State) : Type 0 wher
 pub goes_on-new : {A : Type 0} (plan : Plan A) (case : State) → IsNew case → GoesOn plan plan case
 goes_on-new plan case new = record {
   going = new.going;
-  few = rw new.no_regions (omega arith);
   marks = λ choices. rw (new.no_choices, new.no_regions, new.no_notes) refl;
   cuts = λ choices. rw (new.no_choices, new.no_regions, new.no_notes) refl;
 }
@@ -40,7 +38,6 @@ pub goes_on-asked : {A : Type 0} (whole : Plan A) (kind : Shape) (next : Choice 
     GoesOn whole (Asks kind next) now → Answered now kind choice after → GoesOn whole (next choice) after
 goes_on-asked whole kind next now after choice on answered = rw answered.kept record {
   going = on.going;
-  few = on.few;
   marks = λ choices.
       ap (λ cs. mark_from whole 0 [] [] cs) (append_assoc now.choices (choice ∷ []) choices) ∙ on.marks (choice ∷ choices)
       ∙ mark-admitted kind next (length now.choices) now.regions now.notes choice choices answered.admitted
@@ -69,22 +66,16 @@ pub goes_on-entered : {A : Type 0} (whole : Plan A) (label : ℕ) (next : Plan A
     GoesOn whole (Enters label next) now → Entered now label after → GoesOn whole next after
 goes_on-entered whole label next now after on done = rw done.kept record {
   going = on.going;
-  few = omega (arith, done.room, length-append now.regions (record { label = label; from = length now.choices; to = None; parent = innermost now.regions } ∷ []));
   marks = λ choices. on.marks choices;
   cuts = λ choices. on.cuts choices ∙ cut-entered label next now choices done.room;
 }
 
 -- after one was left, and after a note
 pub goes_on-left : {A : Type 0} (whole next : Plan A) (now : State) → GoesOn whole (Leaves next) now → GoesOn whole next (after_leave now)
-goes_on-left whole next now on = record {
-  going = on.going;
-  few = omega (arith, on.few, length-left (length now.choices) now.regions);
-  marks = on.marks;
-  cuts = on.cuts;
-}
+goes_on-left whole next now on = record { going = on.going; marks = on.marks; cuts = on.cuts }
 
 pub goes_on-noted : {A : Type 0} (whole : Plan A) (note : Note) (next : Plan A) (now : State) → GoesOn whole (Notes note next) now → GoesOn whole next (after_note now note)
-goes_on-noted whole note next now on = record { going = on.going; few = on.few; marks = on.marks; cuts = on.cuts }
+goes_on-noted whole note next now on = record { going = on.going; marks = on.marks; cuts = on.cuts }
 
 -- what stands where the case is
 pub marked-here : {A : Type 0} (whole rest : Plan A) (now : State) (mark : Mark A) → GoesOn whole rest now →
@@ -96,13 +87,9 @@ pub cut-here : {A : Type 0} (whole rest : Plan A) (now : State) (cut : Option (L
 cut-here whole rest now cut on is = ap (λ cs. cut_from 1024 whole 0 [] [] cs) (sym (append-nil now.choices)) ∙ on.cuts [] ∙ is
 
 -- a span past the 1,024th
-pub cut-full : {A : Type 0} (label : ℕ) (next : Plan A) (now : State) → length now.regions ≤ 1024 → 1024 ≤ length now.regions →
+pub cut-full : {A : Type 0} (label : ℕ) (next : Plan A) (now : State) → length now.regions ≡ 1024 →
     cut_from 1024 (Enters label next) (length now.choices) now.regions now.notes [] ≡ Some (spans_at (length now.choices) now.regions, now.notes)
-cut-full label next now few many =
-    let full : nat_eq 1024 (length now.regions) ≡ true = is-full (length now.regions) few many in rw full refl
-  where
-    is-full : (count : ℕ) → count ≤ 1024 → 1024 ≤ count → nat_eq 1024 count ≡ true
-    is-full count few many = grind (arith, nat_tests)
+cut-full label next now many = rw many refl
 
 -- What a plan came to stands after the choices that were made.
 pub came-stands : {A : Type 0} (whole rest : Plan A) (now new : State) (outcome : Result A Halt) →
@@ -117,8 +104,8 @@ came-stands whole (Asks kind next) now new outcome on came = elim came [
 came-stands whole (Enters label next) now new outcome on came = elim came [
   | inl h ↦ came-stands whole next h.0 new outcome (goes_on-entered whole label next now h.0 on h.1) h.2
   | inr h ↦
-      let many : 1024 ≤ length now.regions = elim h.1 [ inl g ↦ let stuck = rw on.going at g in cc | inr g ↦ g ] in
-      rw (h.0, h.2) (inr (rw on.going refl, cut-here whole (Enters label next) now _ on (cut-full label next now on.few many)))
+      let many : length now.regions ≡ 1024 = elim h.1 [ inl g ↦ let stuck = rw on.going at g in cc | inr g ↦ g ] in
+      rw (h.0, h.2) (inr (rw on.going refl, cut-here whole (Enters label next) now _ on (cut-full label next now many)))
 ]
 came-stands whole (Leaves next) now new outcome on came = came-stands whole next (after_leave now) new outcome (goes_on-left whole next now on) came
 came-stands whole (Notes note next) now new outcome on came = came-stands whole next (after_note now note) new outcome (goes_on-noted whole note next now on) came
