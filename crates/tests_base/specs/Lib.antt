@@ -1,2 +1,3 @@
 pub mod Plans
 pub mod Spans
+pub mod Samples

@@ -13,7 +13,7 @@ use Rattle.pt_case.specs.Step.{Cut, Says}
 use Rattle.pt_case.specs.State.{State, IsNew, IsFilled, Entered, after_enter, after_leave, stopped_at}
 use Rattle.pt_case.specs.Run.{Ran}
 use Rattle.pt_case.specs.UnderWay.{ending_of}
-use Rattle.pt_case.specs.Samples.{endless_answer}
+use Rattle.tests_base.specs.Samples.{endless_answer}
 use Rattle.pt_case.proofs.RegionLemmas.{innermost-pushed}
 use Rattle.pt_case.proofs.UnderWayLemmas.{under_way-new, under_way-kept, ran-cut, says-function}
 
