@@ -1,3 +1,3 @@
+pub mod Checks
 pub mod Plans
 pub mod Spans
-pub mod Samples

@@ -1,12 +1,7 @@
-//! The tests of choices, words, spellings, values and cases, with the checks that only tests need.
+//! The tests of choices, words, spellings, values, cases and plans, with the checks that only tests need.
 //!
 //! They stand apart from the crates that they test, since a crate with tests is proved twice.
 #![tactic(auto)]
-
-mod nested;
-mod plans;
-mod rising;
-mod small;
 
 #[cfg(test)]
 mod cases;
@@ -25,9 +20,15 @@ mod orders;
 #[cfg(test)]
 mod plain;
 #[cfg(test)]
+mod plans;
+#[cfg(test)]
 mod records;
 #[cfg(test)]
+mod rising;
+#[cfg(test)]
 mod sample;
+#[cfg(test)]
+mod small;
 #[cfg(test)]
 mod spellings;
 #[cfg(test)]

@@ -7,7 +7,7 @@ ghost use Rattle.pt_plan.specs.Ended.{Settles};
 ghost use Rattle.pt_plan.specs.Open.{open_spans};
 ghost use Rattle.pt_plan.specs.Says.{plan_says};
 ghost use Rattle.pt_plan.specs.Stop.{draw_halt};
-ghost use Rattle.tests_base.specs.Plans.{digit_plan, rising_plan, weighed};
+ghost use Rattle.tests_base.specs.Checks.{digit_plan, rising_plan, weighed};
 
 use pt_case::{Case, Check, Ending, Origin};
 use pt_choice::NoMemory;

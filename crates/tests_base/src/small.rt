@@ -4,7 +4,7 @@ ghost use Rattle.pt_plan.specs.Came.{Drew};
 ghost use Rattle.pt_plan.specs.Ended.{Settles};
 ghost use Rattle.pt_plan.specs.Says.{plan_says};
 ghost use Rattle.pt_plan.specs.Stop.{draw_halt};
-ghost use Rattle.tests_base.specs.Plans.{small_plan};
+ghost use Rattle.tests_base.specs.Checks.{small_plan};
 
 use pt_case::{Case, Check, Ending, Origin};
 use pt_choice::NoMemory;

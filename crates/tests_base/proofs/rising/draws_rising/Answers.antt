@@ -1,7 +1,7 @@
 use Rattle.std.proofs.Common.{◌≡◌, Err, to_z, of_z, rules}
 use Rattle.std.specs.Int.{w128}
 use Rattle.pt_plan.proofs.DrewLemmas.{leads-new, leads-call, leads-entered, leads-left, leads-noted, drew-call, drew-rest}
-use Rattle.tests_base.specs.Plans.{rising_plan, after_first, after_second}
+use Rattle.tests_base.specs.Checks.{rising_plan, after_first, after_second}
 use Rattle.tests_base.proofs.rising.draws_rising.Goals as goal
 
 pub returns-in_err-first-clause-drew : goal.returns-in_err-first-clause-drew

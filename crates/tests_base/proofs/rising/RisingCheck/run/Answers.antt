@@ -1,5 +1,5 @@
 use Rattle.pt_plan.proofs.SaysLemmas.{drew-ran}
-use Rattle.tests_base.specs.Plans.{rising_plan}
+use Rattle.tests_base.specs.Checks.{rising_plan}
 use Rattle.tests_base.proofs.rising.RisingCheck.run.Goals as goal
 
 pub returns : goal.returns

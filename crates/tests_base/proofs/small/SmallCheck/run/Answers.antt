@@ -1,5 +1,5 @@
 use Rattle.pt_plan.proofs.SaysLemmas.{drew-ran}
-use Rattle.tests_base.specs.Plans.{small_plan}
+use Rattle.tests_base.specs.Checks.{small_plan}
 use Rattle.tests_base.proofs.small.SmallCheck.run.Goals as goal
 
 pub returns : goal.returns
