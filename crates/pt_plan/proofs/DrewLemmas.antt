@@ -149,6 +149,7 @@ drew-rest {A = A} {E = E} {halt = halt} {plan = plan} {rest = rest} {old = old} 
     means : (reason : Option Halt) → IfSome reason (λ (r : Halt). Came rest now after (Err r)) → IfSome reason (λ (r : Halt). Came plan old after (Err r))
     means (Some reason) came = way.comes after (Err reason) came
     means None came = tt
+
     at : (result : Result A E) → CameTo halt rest now after result → Drew halt plan old after result
     at (Ok value) came = record { came = way.comes _ _ came }
     at (Err why) came = record { came = means (halt why) came }

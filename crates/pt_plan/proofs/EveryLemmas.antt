@@ -1,15 +1,14 @@
 -- What holds on every way through a plan.
-use Rattle.std.proofs.Common.{◌≡◌, ◌≤ℤ◌, ℕ, ℤ, zero, suc, ◌+◌, true, Option, Some, None, Result, Ok, Err, List, [], ◌∷◌, ◌++◌, length, inl, inr, refl, sym, ◌∙◌, ap, subst, arith, append_assoc}
+use Rattle.std.proofs.Common.{◌≡◌, ◌≤ℤ◌, ℕ, ℤ, zero, suc, ◌+◌, true, Some, None, Result, Ok, List, [], ◌∷◌, ◌++◌, length, inl, inr, refl, sym, ◌∙◌, ap, subst, arith, append_assoc}
 use Rattle.std.proofs.lemmas.List.{append-nil}
 use Rattle.std.proofs.lemmas.Grind.{common_steps}
 use Rattle.std.specs.Prelude.{◌&&◌, int_le, IfOk, IsSome}
-use Rattle.pt_choice.specs.Kind.{admits}
 use Rattle.pt_choice.specs.declared.choice.Choice.{Choice}
 use Rattle.pt_choice.specs.declared.choice.Choice.TheVariants as choice
 use Rattle.pt_case.specs.declared.note.Note.{Note}
 use Rattle.pt_case.specs.declared.region.Region.{Region}
 use Rattle.pt_case.specs.declared.span.Span.{Span}
-use Rattle.pt_case.specs.Region.{innermost, leave_innermost, spans_at}
+use Rattle.pt_case.specs.Region.{innermost, leave_innermost}
 use Rattle.pt_case.specs.State.{State, after_leave, after_note}
 use Rattle.pt_plan.specs.Halt.{Halt}
 use Rattle.pt_plan.specs.Plan.{Plan, Gives, Rejects, Faults, Asks, Enters, Leaves, Notes, and_then, within}

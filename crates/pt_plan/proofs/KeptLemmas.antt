@@ -1,5 +1,5 @@
 -- What stays of what a case had made before a call.
-use Rattle.std.proofs.Common.{◌≡◌, ℕ, Bool, true, false, Option, Some, None, Result, Ok, Err, List, [], ◌∷◌, ◌++◌, length, map, inl, inr, refl, sym, ◌∙◌, ap, append_assoc}
+use Rattle.std.proofs.Common.{◌≡◌, ℕ, Bool, true, false, None, Result, List, [], ◌∷◌, ◌++◌, length, map, inl, inr, refl, sym, ◌∙◌, ap, append_assoc}
 use Rattle.std.proofs.lemmas.List.{append-nil, map-append}
 use Rattle.std.specs.Prelude.{is_some}
 use Rattle.pt_case.specs.declared.region.Region.{Region}
@@ -47,26 +47,26 @@ came-made Rejects old new outcome came = same-made old new (ap (λ s. s.choices)
 came-made (Faults origin) old new outcome came = same-made old new (ap (λ s. s.choices) came.1) (ap (λ s. map start_of s.regions) came.1) (ap (λ s. s.notes) came.1)
 came-made (Asks kind next) old new outcome came = elim came [
   | inl h ↦ made-then old h.1 new record {
-      drawn = h.0 ∷ [];
-      choices = ap (λ s. s.choices) h.2.kept;
-      starts = [];
-      spans = ap (λ s. map start_of s.regions) h.2.kept ∙ sym (append-nil (map start_of old.regions));
-      noted = [];
-      notes = ap (λ s. s.notes) h.2.kept ∙ sym (append-nil old.notes);
-    } (came-made (next h.0) h.1 new outcome h.3)
+    drawn = h.0 ∷ [];
+    choices = ap (λ s. s.choices) h.2.kept;
+    starts = [];
+    spans = ap (λ s. map start_of s.regions) h.2.kept ∙ sym (append-nil (map start_of old.regions));
+    noted = [];
+    notes = ap (λ s. s.notes) h.2.kept ∙ sym (append-nil old.notes);
+  } (came-made (next h.0) h.1 new outcome h.3)
   | inr h ↦ same-made old new (ap (λ s. s.choices) h.2) (ap (λ s. map start_of s.regions) h.2) (ap (λ s. s.notes) h.2)
 ]
 came-made (Enters label next) old new outcome came = elim came [
   | inl h ↦
       let last : Region = record { label = label; from = length old.choices; to = None; parent = innermost old.regions } in
       made-then old h.0 new record {
-      drawn = [];
-      choices = ap (λ s. s.choices) h.1.kept ∙ sym (append-nil old.choices);
-      starts = last ∷ [];
-      spans = ap (λ s. map start_of s.regions) h.1.kept ∙ map-append start_of old.regions (last ∷ []);
-      noted = [];
-      notes = ap (λ s. s.notes) h.1.kept ∙ sym (append-nil old.notes);
-    } (came-made next h.0 new outcome h.2)
+        drawn = [];
+        choices = ap (λ s. s.choices) h.1.kept ∙ sym (append-nil old.choices);
+        starts = last ∷ [];
+        spans = ap (λ s. map start_of s.regions) h.1.kept ∙ map-append start_of old.regions (last ∷ []);
+        noted = [];
+        notes = ap (λ s. s.notes) h.1.kept ∙ sym (append-nil old.notes);
+      } (came-made next h.0 new outcome h.2)
   | inr h ↦ same-made old new (ap (λ s. s.choices) h.2) (ap (λ s. map start_of s.regions) h.2) (ap (λ s. s.notes) h.2)
 ]
 came-made (Leaves next) old new outcome came =

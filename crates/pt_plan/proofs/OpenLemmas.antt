@@ -1,6 +1,6 @@
 -- Which spans are open.
-use Rattle.std.proofs.Common.{◌≡◌, ◌≢◌, ℕ, zero, suc, ◌+◌, Bool, true, false, Option, Some, None, List, [], ◌∷◌, ◌++◌, length, refl, sym, ◌∙◌, ap, arith}
-use Rattle.std.specs.Prelude.{IsSome, is_some, if◌then◌else◌}
+use Rattle.std.proofs.Common.{◌≡◌, ◌≢◌, ℕ, suc, ◌+◌, Bool, true, false, Option, Some, None, List, [], ◌∷◌, ◌++◌, length, refl, sym, ◌∙◌, ap, arith}
+use Rattle.std.specs.Prelude.{IsSome, if◌then◌else◌}
 use Rattle.std.specs.Option.{option_or, option_map}
 use Rattle.pt_case.specs.declared.region.Region.{Region}
 use Rattle.pt_case.specs.Region.{is_open, innermost, leave_innermost}
@@ -53,9 +53,11 @@ open-left here number (region ∷ regions) outer some =
         IsSome (option_or (option_map suc found) (if first then Some 0 else None)) →
         (found : ℕ) × (open_before number (region ∷ regions) outer ≡ found ∷ open_before number (leave_innermost here (region ∷ regions)) outer)
     split further (Some inner) first el eh some = rw el (further (rw el refl))
-    split further None true el eh some =
-        (number, rw (eh, el) (open_before-none (suc number) regions (number ∷ outer) el
-        ∙ ap (λ ns. number ∷ ns) (sym (open_before-none (suc number) regions outer el))))
+    split further None true el eh some = (
+      number,
+      rw (eh, el) (open_before-none (suc number) regions (number ∷ outer) el
+          ∙ ap (λ ns. number ∷ ns) (sym (open_before-none (suc number) regions outer el))),
+    )
     split further None false el eh some = cc
 
 -- where none is open, none is innermost

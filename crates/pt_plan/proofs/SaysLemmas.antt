@@ -1,17 +1,13 @@
 -- A check that goes by a plan.
-use Rattle.std.proofs.Common.{◌≡◌, ◌⊎◌, ℕ, ◌≤◌, false, Option, Some, None, Result, Ok, Err, List, [], length, inl, inr, refl, sym, ◌∙◌, ap, subst}
+use Rattle.std.proofs.Common.{◌≡◌, ℕ, false, Option, Some, None, Result, Ok, Err, List, [], length, inl, inr, refl, sym, ◌∙◌, ap, subst}
 use Rattle.std.specs.Prelude.{IfOk, IfSome}
-use Rattle.std.specs.Option.{option_or, option_map}
 use Rattle.pt_choice.specs.declared.choice.Choice.{Choice}
-use Rattle.pt_choice.specs.declared.kind.Shape.{Shape}
 use Rattle.pt_case.specs.declared.ending.Ending.{Ending}
 use Rattle.pt_case.specs.declared.ending.Ending.TheVariants.{Reject, Overrun, Fail}
-use Rattle.pt_case.specs.declared.note.Note.{Note}
-use Rattle.pt_case.specs.declared.span.Span.{Span}
 use Rattle.pt_case.specs.Ending.{is_overrun}
 use Rattle.pt_case.specs.Region.{spans_at}
 use Rattle.pt_case.specs.State.{State, IsNew, after_leave, after_note}
-use Rattle.pt_case.specs.Step.{Answer, Ask, End, Cut, Says}
+use Rattle.pt_case.specs.Step.{Answer, Cut, Says}
 use Rattle.pt_case.specs.UnderWay.{IsUnderWay}
 use Rattle.pt_case.specs.Run.{Ran}
 use Rattle.pt_case.proofs.UnderWayLemmas.{under_way-new, under_way-drawn, under_way-kept, ran-ended, ran-refused, ran-cut}
@@ -20,7 +16,7 @@ use Rattle.pt_plan.specs.Plan.{Plan, Gives, Rejects, Faults, Asks, Enters, Leave
 use Rattle.pt_plan.specs.Came.{Came, CameTo, Drew}
 use Rattle.pt_plan.specs.Mark.{Mark, mark_from, cut_from}
 use Rattle.pt_plan.specs.Ended.{ended, halted, Settles}
-use Rattle.pt_plan.specs.Says.{answer_at, answer_after, plan_says}
+use Rattle.pt_plan.specs.Says.{answer_at, plan_says}
 use Rattle.pt_plan.proofs.StandsLemmas.{GoesOn, goes_on-new, goes_on-asked, goes_on-entered, goes_on-left, goes_on-noted, marked-here, cut-here, cut-full}
 
 -- a plan's answer is one
@@ -102,6 +98,7 @@ drew-ran {E = E} {halt = halt} whole {old = old} {new = new} {result = result} i
     means (Some Rejection) came = ran-led whole old new (Err Rejection) is tt came
     means (Some (Fault origin)) came = ran-led whole old new (Err (Fault origin)) is tt came
     means (Some Refusal) came = ran-led whole old new (Err Refusal) is tt came
+
     at : (result : Result Ending E) → Settles result → CameTo halt whole old new result → IfOk (ended halt result) (λ ending. Ran (plan_says whole) old new ending)
     at (Ok ending) settles came = ran-led whole old new (Ok ending) is settles came
     at (Err why) settles came = means (halt why) came

@@ -1,22 +1,20 @@
 -- What stands after the choices of a run that a plan leads.
-use Rattle.std.proofs.Common.{◌≡◌, ◌⊎◌, ℕ, ◌+◌, ◌<◌, ◌≤◌, true, false, Option, Some, None, Result, Ok, Err, List, [], ◌∷◌, ◌++◌, length, inl, inr, refl, sym, ◌∙◌, ap, subst, arith, length-append, append_assoc}
+use Rattle.std.proofs.Common.{◌≡◌, ℕ, ◌+◌, ◌<◌, false, Option, Some, None, Result, List, [], ◌∷◌, ◌++◌, length, inl, inr, refl, sym, ◌∙◌, ap, arith, length-append, append_assoc}
 use Rattle.std.proofs.lemmas.Bool.Decides.{nat_tests}
 use Rattle.std.proofs.lemmas.List.{append-nil}
-use Rattle.std.specs.Prelude.{nat_eq, if◌then◌else◌}
-use Rattle.pt_choice.specs.Kind.{admits}
+use Rattle.std.specs.Prelude.{nat_eq}
 use Rattle.pt_choice.specs.declared.choice.Choice.{Choice}
 use Rattle.pt_choice.specs.declared.kind.Shape.{Shape}
 use Rattle.pt_case.specs.declared.note.Note.{Note}
-use Rattle.pt_case.specs.declared.refused.Refused.TheVariants.{Question, Entry}
 use Rattle.pt_case.specs.declared.span.Span.{Span}
-use Rattle.pt_case.specs.Region.{innermost, spans_at}
-use Rattle.pt_case.specs.State.{State, IsNew, Answered, Entered, after_draw, after_enter, after_leave, after_note, stopped_at}
-use Rattle.pt_plan.specs.Halt.{Halt, Rejection, Fault, Refusal}
+use Rattle.pt_case.specs.Region.{spans_at}
+use Rattle.pt_case.specs.State.{State, IsNew, Answered, Entered, after_leave, after_note}
+use Rattle.pt_plan.specs.Halt.{Halt}
 use Rattle.pt_plan.specs.Plan.{Plan, Gives, Rejects, Faults, Asks, Enters, Leaves, Notes}
 use Rattle.pt_plan.specs.Came.{Came}
 use Rattle.pt_plan.specs.Mark.{Mark, entered, mark_from, cut_from}
 use Rattle.pt_plan.specs.Stands.{Stands}
-use Rattle.pt_plan.proofs.MarkLemmas.{mark-admitted, cut-admitted, length-left}
+use Rattle.pt_plan.proofs.MarkLemmas.{mark-admitted, cut-admitted}
 
 -- A case that was led so far by the whole plan, and to which this is left of it: after further choices there stands of the whole
 -- what stands of the rest.

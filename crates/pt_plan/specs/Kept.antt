@@ -1,5 +1,5 @@
 -- What stays of what a case had made before a call.
-use Rattle.std.specs.Prelude.{◌≡◌, Bool, true, false, Option, None, Result, Ok, Err, List, ◌++◌, map}
+use Rattle.std.specs.Prelude.{◌≡◌, Bool, true, false, None, Result, Ok, Err, List, ◌++◌, map}
 use Rattle.pt_choice.specs.declared.choice.Choice.{Choice}
 use Rattle.pt_case.specs.declared.note.Note.{Note}
 use Rattle.pt_case.specs.declared.region.Region.{Region}

@@ -1,11 +1,9 @@
 -- What a check answers that goes by a plan.
-use Rattle.std.specs.Prelude.{◌≡◌, Option, Some, None, List, []}
+use Rattle.std.specs.Prelude.{◌≡◌, Option, Some, List, []}
 use Rattle.std.specs.Option.{option_or, option_map}
 use Rattle.pt_choice.specs.declared.choice.Choice.{Choice}
 use Rattle.pt_case.specs.declared.ending.Ending.{Ending}
 use Rattle.pt_case.specs.declared.ending.Ending.TheVariants.{Reject, Fail}
-use Rattle.pt_case.specs.declared.note.Note.{Note}
-use Rattle.pt_case.specs.declared.span.Span.{Span}
 use Rattle.pt_case.specs.Step.{Answer, Ask, End, Cut}
 use Rattle.pt_plan.specs.Plan.{Plan}
 use Rattle.pt_plan.specs.Mark.{Mark, Derived, Rejected, Faulted, Wanted, mark_from, cut_from}

@@ -1,15 +1,16 @@
 use pt_case::{Origin, Stop};
 use pt_choice::NoMemory;
 
-/// Why a draw gave no value.
+/// Why a draw gave no value. What was answered, entered and noted before stays with the case, unless memory ran out.
 #[derive(Clone, Copy, Debug, PartialEq, Eq)]
 pub enum DrawStop {
-    /// The example is none that the property speaks of.
+    /// The example is none that the property speaks of: a rejection.
     Reject,
-    /// The case gives no more, and is stopped.
+    /// The case gives no more, and is stopped from then on.
     Overrun,
-    /// An expression faulted, or bounds contradicted one another.
+    /// The example fails, with this origin.
     Fault(Origin),
+    /// Memory ran out. Only dropping the case is of use.
     NoMemory,
 }
 

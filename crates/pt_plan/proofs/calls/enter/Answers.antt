@@ -1,8 +1,8 @@
-use Rattle.std.proofs.Common.{◌≡◌, ℕ, [], ◌∷◌, Result, Ok, Err, length, refl, ◌∙◌, ap}
+use Rattle.std.proofs.Common.{◌≡◌, ℕ, ◌∷◌, Result, Ok, Err, length, refl}
 use Rattle.std.specs.Prelude.{OnOk}
 use Rattle.pt_case.specs.declared.stop.Stop.{Stop}
 use Rattle.pt_case.specs.State.{State, Entered}
-use Rattle.pt_plan.specs.Open.{open_spans, open_before}
+use Rattle.pt_plan.specs.Open.{open_spans}
 use Rattle.pt_plan.proofs.OpenLemmas.{open-entered}
 use Rattle.pt_plan.proofs.calls.enter.Goals as goal
 

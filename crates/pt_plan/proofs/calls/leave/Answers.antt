@@ -1,4 +1,4 @@
-use Rattle.std.proofs.Common.{◌≡◌, []}
+use Rattle.std.proofs.Common.{[]}
 use Rattle.pt_plan.proofs.OpenLemmas.{some-open, open-left}
 use Rattle.pt_plan.proofs.calls.leave.Goals as goal
 

@@ -1,4 +1,4 @@
-use Rattle.std.proofs.Common.{◌≡◌, ℕ, ◌≤◌, zero, [], length, arith}
+use Rattle.std.proofs.Common.{◌≤◌, [], arith}
 use Rattle.pt_plan.proofs.MarkLemmas.{cut-count, cut-below, cut-met}
 use Rattle.pt_plan.proofs.laws.cuts_come_before.Goals as goal
 

@@ -1,4 +1,4 @@
-use Rattle.std.proofs.Common.{◌≡◌, [], ◌∙◌, sym}
+use Rattle.std.proofs.Common.{[], ◌∙◌, sym}
 use Rattle.pt_plan.proofs.MarkLemmas.{mark-ends, cut-ends}
 use Rattle.pt_plan.proofs.laws.no_end_begins_another.Goals as goal
 
