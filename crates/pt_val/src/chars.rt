@@ -64,21 +64,3 @@ impl Chars {
         Ok(())
     }
 }
-
-#[cfg(test)]
-mod tests {
-    use super::*;
-    use std::test::Fail;
-
-    #[test]
-    fn characters_are_kept_in_order(rt: HostRuntime) -> Result<(), Fail> {
-        let mut chars = Chars::empty(rt.alloc());
-        assert_eq!(rt; chars.len(), 0);
-        chars.push('a')?;
-        chars.push('\u{10ffff}')?;
-        let copy = chars.copy()?;
-        assert_eq!(rt; copy.len(), 2);
-        assert!(rt; copy.as_slice() == ['a', '\u{10ffff}'].as_slice());
-        Ok(())
-    }
-}

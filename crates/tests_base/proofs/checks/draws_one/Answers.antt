@@ -2,9 +2,9 @@ use Rattle.std.proofs.Common.{◌≡◌, [], ◌∷◌, refl, ◌∙◌, ap}
 use Rattle.pt_case.specs.declared.ending.Ending.TheVariants.{Pass}
 use Rattle.pt_case.specs.State.{State, new_state, after_draw}
 use Rattle.pt_case.specs.Run.{Ran}
-use Rattle.pt_case.specs.Samples.{never_answer}
+use Rattle.tests_base.specs.Samples.{never_answer}
 use Rattle.pt_case.proofs.UnderWayLemmas.{new-is, under_way-new, under_way-drawn, ran-ended, says-function}
-use Rattle.pt_case.proofs.samples.draws_one.Goals as goal
+use Rattle.tests_base.proofs.checks.draws_one.Goals as goal
 
 pub returns : goal.returns
 returns c =

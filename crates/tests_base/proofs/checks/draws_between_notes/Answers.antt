@@ -7,9 +7,9 @@ use Rattle.pt_case.specs.declared.note.Note.{Note}
 use Rattle.pt_case.specs.Step.{Answer}
 use Rattle.pt_case.specs.State.{State, new_state, after_draw, after_note}
 use Rattle.pt_case.specs.Run.{Ran}
-use Rattle.pt_case.specs.Samples.{noted_answer}
+use Rattle.tests_base.specs.Samples.{noted_answer}
 use Rattle.pt_case.proofs.UnderWayLemmas.{new-is, under_way-new, note-on, draw-on, ran-stopped, ran-ended, says-function}
-use Rattle.pt_case.proofs.samples.draws_between_notes.Goals as goal
+use Rattle.tests_base.proofs.checks.draws_between_notes.Goals as goal
 
 pub returns-in_err-draw : goal.returns-in_err-draw
 returns-in_err-draw c =

@@ -1,13 +1,13 @@
-//! Checks for the tests.
+//! Checks that only tests need.
 
 ghost use Rattle.std.specs.Prelude.{◌≡◌, pos, IfOk};
 ghost use Rattle.pt_choice.specs.declared.kind.Shape.TheVariants.{Bool, Int};
 ghost use Rattle.pt_case.specs.State.{IsNew};
 ghost use Rattle.pt_case.specs.Run.{Ran};
 ghost use Rattle.pt_case.specs.UnderWay.{ending_of};
-ghost use Rattle.pt_case.specs.Samples.{never_answer, always_answer, nested_answer, endless_answer, noted_answer};
+ghost use Rattle.tests_base.specs.Samples.{never_answer, always_answer, nested_answer, endless_answer, noted_answer};
 
-use crate::{Case, Check, Ending, Origin, Stop};
+use pt_case::{Case, Check, Ending, Origin, Stop};
 use pt_choice::{Kind, NoMemory};
 use pt_val::{Name, Val};
 
@@ -25,8 +25,8 @@ fn digit() -> Kind
 
 /// Asks for a boolean and passes.
 #[derive(Drop)]
-pub(crate) struct Never {
-    pub(crate) name: Name,
+pub struct Never {
+    pub name: Name,
 }
 
 impl Check for Never {
@@ -53,8 +53,8 @@ fn draws_one(case: &mut Case) -> Result<Ending, Stop>
 
 /// Fails at once.
 #[derive(Drop)]
-pub(crate) struct Always {
-    pub(crate) name: Name,
+pub struct Always {
+    pub name: Name,
 }
 
 impl Check for Always {
@@ -73,8 +73,8 @@ impl Check for Always {
 
 /// Draws three choices, each in one span more.
 #[derive(Drop)]
-pub(crate) struct Nested {
-    pub(crate) name: Name,
+pub struct Nested {
+    pub name: Name,
 }
 
 impl Check for Nested {
@@ -109,8 +109,8 @@ fn draws_nested(case: &mut Case) -> Result<Ending, Stop>
 
 /// Enters spans without end, and leaves each at once.
 #[derive(Drop)]
-pub(crate) struct Endless {
-    pub(crate) name: Name,
+pub struct Endless {
+    pub name: Name,
 }
 
 impl Check for Endless {
@@ -139,8 +139,8 @@ fn enters_spans(case: &mut Case) -> Result<Ending, Stop>
 
 /// Notes its name with true, draws a boolean, and notes it with false.
 #[derive(Drop)]
-pub(crate) struct Noted {
-    pub(crate) name: Name,
+pub struct Noted {
+    pub name: Name,
 }
 
 impl Check for Noted {

@@ -1,32 +1,28 @@
 //! Choices from words that a second implementation of the cipher gave, worked out from them by hand.
 
-use crate::Supply;
-use Sample::{Bytes, Flag, Number, Text};
-use pt_choice::{Choice, Kind, NoMemory, Octets};
+use crate::sample::Sample::{self, Bytes, Flag, Number, Text};
+use crate::sample::made;
+use pt_choice::{Kind, NoMemory};
+use pt_rng::Supply;
 use std::alloc::Global;
-use std::test::Fail;
 
-// A choice as a table writes it.
-#[derive(Clone, Copy, Debug)]
-enum Sample {
-    Flag(bool),
-    Number(i128),
-    Bytes(&'static [u8]),
-    Text(&'static [u8]),
-}
+const WIDEST: i128 = 0xffff_ffff_ffff_ffff;
 
-fn made(alloc: Global, sample: Sample) -> Result<Choice, NoMemory> {
-    match sample {
-        Flag(value) => Ok(Choice::Bool(value)),
-        Number(value) => Ok(Choice::Int(value)),
-        Bytes(bytes) => Ok(Choice::Bytes(Octets::of(alloc, bytes)?)),
-        Text(places) => Ok(Choice::Text(Octets::of(alloc, places)?)),
-    }
+// Whether the supply makes this choice next for a question of this kind.
+fn makes(
+    alloc: Global,
+    supply: &mut Supply,
+    kind: Option<Kind>,
+    want: Sample,
+) -> Result<bool, NoMemory> {
+    let Some(kind) = kind else {
+        return Ok(false);
+    };
+    Ok(supply.next_choice(alloc, &kind)? == made(alloc, want)?)
 }
 
 #[test]
-fn run_0_is_given_the_simplest(rt: HostRuntime) -> Result<(), Fail> {
-    let alloc = rt.alloc();
+fn run_0_is_given_the_simplest(rt: HostRuntime) {
     for mut supply in [Supply::of_run(9, 0), Supply::simplest()] {
         for (kind, want) in [
             (Kind::of_bytes(2, 4), Bytes(&[0, 0])),
@@ -34,18 +30,18 @@ fn run_0_is_given_the_simplest(rt: HostRuntime) -> Result<(), Fail> {
             (Kind::of_int(-9, 9), Number(0)),
             (Kind::of_text(1, 3, 4), Text(&[0])),
         ] {
-            let kind = kind.ok_or("a kind")?;
-            assert_eq!(rt; supply.next_choice(alloc, &kind)?, made(alloc, want)?);
+            assert_eq!(rt;
+                makes(rt.alloc(), &mut supply, kind, want),
+                Ok(true),
+                "{want:?}"
+            );
         }
     }
-    Ok(())
 }
 
 // The words of seed 9 and stream 1, as far as they matter, stand beside each choice that is made of them.
 #[test]
-fn run_1_is_given_what_its_words_make(rt: HostRuntime) -> Result<(), Fail> {
-    const WIDEST: i128 = 0xffff_ffff_ffff_ffff;
-    let alloc = rt.alloc();
+fn run_1_is_given_what_its_words_make(rt: HostRuntime) {
     let mut supply = Supply::of_run(9, 1);
     for (kind, want) in [
         // 5 modulo 16
@@ -80,34 +76,27 @@ fn run_1_is_given_what_its_words_make(rt: HostRuntime) -> Result<(), Fail> {
         (Kind::of_bool(8), Flag(true)),
         (Kind::of_bool(1), Flag(true)),
     ] {
-        let kind = kind.ok_or("a kind")?;
-        assert_eq!(rt; supply.next_choice(alloc, &kind)?, made(alloc, want)?);
-    }
-    Ok(())
-}
-
-#[test]
-fn seed_and_stream_choose_the_words(rt: HostRuntime) -> Result<(), Fail> {
-    let alloc = rt.alloc();
-    let kind = Kind::of_bytes(4, 4).ok_or("a kind")?;
-    for (seed, run, want) in [
-        (0, 0, [137, 127, 31, 44]),
-        (0x0102_0304_0506_0708, 1, [39, 79, 140, 152]),
-        (u64::MAX, u64::MAX, [87, 157, 170, 30]),
-    ] {
-        let choice = Supply::stream(seed, run).next_choice(alloc, &kind)?;
         assert_eq!(rt;
-            choice,
-            Choice::Bytes(Octets::of(alloc, &want)?),
-            "seed {seed}, stream {run}"
+            makes(rt.alloc(), &mut supply, kind, want),
+            Ok(true),
+            "{want:?}"
         );
     }
-    Ok(())
 }
 
-fn is_shared<T: Send + Sync>(_: &T) {}
-
 #[test]
-fn workers_share_them() {
-    is_shared(&Supply::simplest());
+fn seed_and_stream_choose_the_words(rt: HostRuntime) {
+    for (seed, run, want) in [
+        (0, 0, Bytes(&[137, 127, 31, 44])),
+        (0x0102_0304_0506_0708, 1, Bytes(&[39, 79, 140, 152])),
+        (u64::MAX, u64::MAX, Bytes(&[87, 157, 170, 30])),
+    ] {
+        let mut supply = Supply::stream(seed, run);
+        let kind = Kind::of_bytes(4, 4);
+        assert_eq!(rt;
+            makes(rt.alloc(), &mut supply, kind, want),
+            Ok(true),
+            "seed {seed}"
+        );
+    }
 }

@@ -1,6 +1,6 @@
 use Rattle.std.proofs.Common.{◌≡◌, ◌≤◌, ◌-◌, ℕ, length}
-use Rattle.pt_case.proofs.EndlessLemmas.{spanned}
-use Rattle.pt_case.proofs.samples.enters_spans.Given as goal
+use Rattle.tests_base.proofs.EndlessLemmas.{spanned}
+use Rattle.tests_base.proofs.checks.enters_spans.Given as goal
 
 -- so many spans were entered and left, and nothing else was done
 abbrev pub invariant-loop-case : goal.invariant-loop-case

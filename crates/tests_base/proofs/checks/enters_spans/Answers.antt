@@ -1,7 +1,7 @@
 use Rattle.std.proofs.Common.{◌≡◌, ◌+◌, Err, rules, arith}
 use Rattle.std.proofs.lemmas.List.{length-replicate}
-use Rattle.pt_case.proofs.EndlessLemmas.{left_span, entered-open, spanned-more, spanned-longer, ran-endless}
-use Rattle.pt_case.proofs.samples.enters_spans.Goals as goal
+use Rattle.tests_base.proofs.EndlessLemmas.{left_span, entered-open, spanned-more, spanned-longer, ran-endless}
+use Rattle.tests_base.proofs.checks.enters_spans.Goals as goal
 
 pub returns-in_err-enter : goal.returns-in_err-enter
 returns-in_err-enter c =

@@ -5,9 +5,9 @@ use Rattle.pt_case.specs.Step.{Answer}
 use Rattle.pt_case.specs.declared.ending.Ending.TheVariants.{Pass}
 use Rattle.pt_case.specs.State.{State, new_state, after_draw, after_enter, after_leave}
 use Rattle.pt_case.specs.Run.{Ran}
-use Rattle.pt_case.specs.Samples.{nested_answer}
+use Rattle.tests_base.specs.Samples.{nested_answer}
 use Rattle.pt_case.proofs.UnderWayLemmas.{new-is, under_way-new, enter-on, draw-on, leave-on, ran-stopped, ran-ended, says-function}
-use Rattle.pt_case.proofs.samples.draws_nested.Goals as goal
+use Rattle.tests_base.proofs.checks.draws_nested.Goals as goal
 
 -- the check's answers
 abbrev step : List Choice → Answer → Type 0
