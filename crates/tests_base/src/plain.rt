@@ -5,19 +5,19 @@ use pt_val::{Chars, Val, Vals};
 use std::alloc::Global;
 
 /// A value as plain data.
-#[derive(Clone, Copy, Debug)]
-pub enum Plain<'a> {
+#[derive(Clone, Copy)]
+pub enum Plain {
     Int(i64),
     Bool(bool),
-    Text(&'a [char]),
-    Bytes(&'a [u8]),
-    List(&'a [Plain<'a>]),
-    Tuple(&'a [Plain<'a>]),
-    Node(i64, &'a [Plain<'a>]),
+    Text(&'static [char]),
+    Bytes(&'static [u8]),
+    List(&'static [Plain]),
+    Tuple(&'static [Plain]),
+    Node(i64, &'static [Plain]),
 }
 
 #[cycle(plain)]
-pub fn value_of(alloc: Global, plain: &Plain<'_>) -> Result<Val, NoMemory> {
+pub fn value_of(alloc: Global, plain: &Plain) -> Result<Val, NoMemory> {
     match plain {
         Plain::Int(number) => Ok(Val::Int(*number)),
         Plain::Bool(truth) => Ok(Val::Bool(*truth)),
@@ -30,7 +30,7 @@ pub fn value_of(alloc: Global, plain: &Plain<'_>) -> Result<Val, NoMemory> {
 }
 
 #[cycle(plain)]
-fn values_of(alloc: Global, plain: &[Plain<'_>]) -> Result<Vals, NoMemory> {
+fn values_of(alloc: Global, plain: &[Plain]) -> Result<Vals, NoMemory> {
     let mut values = Vals::empty(alloc);
     for member in plain {
         values.push(value_of(alloc, member)?)?;

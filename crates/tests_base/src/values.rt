@@ -7,9 +7,48 @@ use pt_val::{Chars, Ty, Tys, Val, Vals, has_type, same, show, size};
 use std::alloc::Global;
 use std::test::Fail;
 
+/// Values, of which no two are the same, with the text and the size of each.
+const VALUES: [(Plain, &str, u64); 27] = [
+    (Int(0), "0", 1),
+    (Int(1), "1", 1),
+    (Int(-1), "-1", 1),
+    (Int(i64::MAX), "9223372036854775807", 1),
+    (Int(i64::MIN), "-9223372036854775808", 1),
+    (Bool(true), "true", 1),
+    (Bool(false), "false", 1),
+    (Text(&[]), r#""""#, 1),
+    (Text(&['a']), r#""a""#, 2),
+    (Text(&['a', '"', 'b']), r#""a\"b""#, 4),
+    (Text(&['\\', '\'']), r#""\\'""#, 3),
+    (Text(&[' ', '~']), r#"" ~""#, 3),
+    (Text(&['\0', '\n', '\u{1f}']), r#""\u{0}\u{a}\u{1f}""#, 4),
+    (
+        Text(&['\u{7f}', '\u{e9}', '\u{fff}']),
+        r#""\u{7f}\u{e9}\u{fff}""#,
+        4,
+    ),
+    (Text(&['\u{10ffff}']), r#""\u{10ffff}""#, 2),
+    (Bytes(&[]), r#"x"""#, 1),
+    (Bytes(b"a"), r#"x"61""#, 2),
+    (Bytes(&[0x00, 0x9a, 0xff]), r#"x"009aff""#, 4),
+    (List(&[]), "[]", 1),
+    (List(&[Int(1), Int(2)]), "[1, 2]", 3),
+    (List(&[Int(2), Int(1)]), "[2, 1]", 3),
+    (List(&[Int(1), Int(1)]), "[1, 1]", 3),
+    (Tuple(&[]), "()", 1),
+    (Tuple(&[Int(-1), List(&[Int(2)])]), "(-1, [2])", 4),
+    (Node(3, &[]), "leaf(3)", 1),
+    (Node(4, &[]), "leaf(4)", 1),
+    (
+        Node(8, &[Node(-5, &[Node(3, &[])]), Node(4, &[])]),
+        "node(8, [node(-5, [leaf(3)]), leaf(4)])",
+        4,
+    ),
+];
+
 fn has_text_and_size(
     alloc: Global,
-    plain: Plain<'_>,
+    plain: Plain,
     text: &str,
     wanted: u64,
 ) -> Result<bool, NoMemory> {
@@ -19,53 +58,16 @@ fn has_text_and_size(
 }
 
 // Whether the value is the same as its copy.
-fn are_same(alloc: Global, one: Plain<'_>, other: Plain<'_>) -> Result<bool, NoMemory> {
+fn are_same(alloc: Global, one: Plain, other: Plain) -> Result<bool, NoMemory> {
     Ok(same(&value_of(alloc, &one)?, &value_of(alloc, &other)?.copy()?))
 }
 
 #[test]
 fn values_have_their_text_and_size_and_no_two_are_the_same(rt: HostRuntime) {
-    let values = [
-        (Int(0), "0", 1),
-        (Int(1), "1", 1),
-        (Int(-1), "-1", 1),
-        (Int(i64::MAX), "9223372036854775807", 1),
-        (Int(i64::MIN), "-9223372036854775808", 1),
-        (Bool(true), "true", 1),
-        (Bool(false), "false", 1),
-        (Text(&[]), r#""""#, 1),
-        (Text(&['a']), r#""a""#, 2),
-        (Text(&['a', '"', 'b']), r#""a\"b""#, 4),
-        (Text(&['\\', '\'']), r#""\\'""#, 3),
-        (Text(&[' ', '~']), r#"" ~""#, 3),
-        (Text(&['\0', '\n', '\u{1f}']), r#""\u{0}\u{a}\u{1f}""#, 4),
-        (
-            Text(&['\u{7f}', '\u{e9}', '\u{fff}']),
-            r#""\u{7f}\u{e9}\u{fff}""#,
-            4,
-        ),
-        (Text(&['\u{10ffff}']), r#""\u{10ffff}""#, 2),
-        (Bytes(&[]), r#"x"""#, 1),
-        (Bytes(b"a"), r#"x"61""#, 2),
-        (Bytes(&[0x00, 0x9a, 0xff]), r#"x"009aff""#, 4),
-        (List(&[]), "[]", 1),
-        (List(&[Int(1), Int(2)]), "[1, 2]", 3),
-        (List(&[Int(2), Int(1)]), "[2, 1]", 3),
-        (List(&[Int(1), Int(1)]), "[1, 1]", 3),
-        (Tuple(&[]), "()", 1),
-        (Tuple(&[Int(-1), List(&[Int(2)])]), "(-1, [2])", 4),
-        (Node(3, &[]), "leaf(3)", 1),
-        (Node(4, &[]), "leaf(4)", 1),
-        (
-            Node(8, &[Node(-5, &[Node(3, &[])]), Node(4, &[])]),
-            "node(8, [node(-5, [leaf(3)]), leaf(4)])",
-            4,
-        ),
-    ];
-    for (i, (one, text, size)) in values.iter().enumerate() {
+    for (i, (one, text, size)) in VALUES.iter().enumerate() {
         let has = has_text_and_size(rt.alloc(), *one, text, *size);
         assert_eq!(rt; has, Ok(true), "{text}");
-        for (j, (other, _, _)) in values.iter().enumerate() {
+        for (j, (other, _, _)) in VALUES.iter().enumerate() {
             assert_eq!(rt;
                 are_same(rt.alloc(), *one, *other),
                 Ok(i == j),
@@ -75,14 +77,31 @@ fn values_have_their_text_and_size_and_no_two_are_the_same(rt: HostRuntime) {
     }
 }
 
-fn is_of(alloc: Global, plain: Plain<'_>, ty: &Ty) -> Result<bool, NoMemory> {
-    Ok(has_type(&value_of(alloc, &plain)?, ty))
+/// A type as plain data.
+#[derive(Clone, Copy)]
+enum Wanted {
+    Int,
+    Bool,
+    Text,
+    Bytes,
+    Tree,
+    Integers,
+    Pair,
 }
 
-fn list_of_integers(alloc: Global) -> Result<Ty, NoMemory> {
-    Ok(Ty::List(Box::new(alloc, Ty::Int)?))
+fn type_of(alloc: Global, wanted: Wanted) -> Result<Ty, NoMemory> {
+    match wanted {
+        Wanted::Int => Ok(Ty::Int),
+        Wanted::Bool => Ok(Ty::Bool),
+        Wanted::Text => Ok(Ty::Text),
+        Wanted::Bytes => Ok(Ty::Bytes),
+        Wanted::Tree => Ok(Ty::Tree),
+        Wanted::Integers => nested_type(alloc, 1),
+        Wanted::Pair => pair(alloc),
+    }
 }
 
+// The type of pairs of an integer and a truth value.
 fn pair(alloc: Global) -> Result<Ty, NoMemory> {
     let mut types = Tys::empty(alloc);
     types.push(Ty::Int)?;
@@ -90,29 +109,33 @@ fn pair(alloc: Global) -> Result<Ty, NoMemory> {
     Ok(Ty::Tuple(types))
 }
 
+/// Values and types, and whether the one is of the other.
+const TYPINGS: [(Plain, Wanted, bool); 14] = [
+    (Int(1), Wanted::Int, true),
+    (Bool(true), Wanted::Bool, true),
+    (Text(&[]), Wanted::Text, true),
+    (Text(&[]), Wanted::Bytes, false),
+    (Bytes(&[]), Wanted::Bytes, true),
+    (List(&[]), Wanted::Integers, true),
+    (List(&[Int(1), Int(2)]), Wanted::Integers, true),
+    (List(&[Int(1), Bool(true)]), Wanted::Integers, false),
+    (Int(1), Wanted::Integers, false),
+    (Tuple(&[Int(1), Bool(true)]), Wanted::Pair, true),
+    (Tuple(&[Bool(true), Int(1)]), Wanted::Pair, false),
+    (Tuple(&[Int(1)]), Wanted::Pair, false),
+    (Node(1, &[Node(2, &[])]), Wanted::Tree, true),
+    (Node(1, &[Int(2)]), Wanted::Tree, false),
+];
+
+fn is_of(alloc: Global, plain: Plain, wanted: Wanted) -> Result<bool, NoMemory> {
+    Ok(has_type(&value_of(alloc, &plain)?, &type_of(alloc, wanted)?))
+}
+
 #[test]
-fn a_value_is_of_its_type_and_no_other(rt: HostRuntime) -> Result<(), Fail> {
-    let integers = list_of_integers(rt.alloc())?;
-    let pair = pair(rt.alloc())?;
-    for (plain, ty, wanted) in [
-        (Int(1), &Ty::Int, true),
-        (Bool(true), &Ty::Bool, true),
-        (Text(&[]), &Ty::Text, true),
-        (Text(&[]), &Ty::Bytes, false),
-        (Bytes(&[]), &Ty::Bytes, true),
-        (List(&[]), &integers, true),
-        (List(&[Int(1), Int(2)]), &integers, true),
-        (List(&[Int(1), Bool(true)]), &integers, false),
-        (Int(1), &integers, false),
-        (Tuple(&[Int(1), Bool(true)]), &pair, true),
-        (Tuple(&[Bool(true), Int(1)]), &pair, false),
-        (Tuple(&[Int(1)]), &pair, false),
-        (Node(1, &[Node(2, &[])]), &Ty::Tree, true),
-        (Node(1, &[Int(2)]), &Ty::Tree, false),
-    ] {
-        assert_eq!(rt; is_of(rt.alloc(), plain, ty), Ok(wanted), "{plain:?}");
+fn a_value_is_of_its_type_and_no_other(rt: HostRuntime) {
+    for (i, (plain, ty, wanted)) in TYPINGS.iter().enumerate() {
+        assert_eq!(rt; is_of(rt.alloc(), *plain, *ty), Ok(*wanted), "row {i}");
     }
-    Ok(())
 }
 
 // The number 7 inside lists of one member, so many levels deep.
