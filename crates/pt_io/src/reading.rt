@@ -1,7 +1,7 @@
 ghost use Rattle.std.specs.Prelude.{◌≡◌, true, IfOk, IsErrOf};
 ghost use Rattle.pt_choice.specs.Faults.{Rose, next_count};
 ghost use Rattle.pt_io.specs.Files.{HasBytes, HasNone, IsSame};
-ghost use Rattle.pt_io.specs.Reading.{IsSmall, IsLarge};
+ghost use Rattle.pt_io.specs.Reading.{IsWithinLimit, IsPastLimit};
 ghost use Rattle.pt_io.specs.declared.reading.ReadStop.TheVariants.{NoMemory as OutOfMemory};
 
 use crate::Files;
@@ -36,9 +36,9 @@ impl From<AllocError> for ReadStop {
 /// one that grows while it is read, since each turn but the last takes a byte.
 pub fn read_whole<F: Files>(alloc: Global, files: &mut F, name: &str) -> Result<Octets, ReadStop>
     ensures whole { IfOk result (λ bytes. HasBytes (F.shows files.old) name.now (λ there. there ≡ bytes)) }
-    ensures small { IfOk result IsSmall }
+    ensures small { IfOk result IsWithinLimit }
 
-    ensures large { IsErrOf result ReadStop.TooLarge → HasBytes (F.shows files.old) name.now IsLarge }
+    ensures large { IsErrOf result ReadStop.TooLarge → HasBytes (F.shows files.old) name.now IsPastLimit }
 
     // It failed exactly where a call of the files did, and a fault is counted in no other case.
     ensures failed { IsErrOf result ReadStop.Failed → Rose (F.shows files.old).faults (F.shows files.new).faults }
