@@ -1,4 +1,6 @@
+pub mod Completeness
 pub mod Messages
+pub mod Replaying
 pub mod Runs
 pub mod Suites
 pub mod Words

@@ -49,8 +49,9 @@ status_of (Refused refusal) = refusal_status refusal
 status_of (Reported finding) = if has_passed finding.verdict then 0 else 1
 status_of (Replayed item rec) = if is_failure rec.ending then 1 else 0
 
--- the message was written whole, with its status
+-- the message was written whole, with its status, and no call of the sink failed
 pub record TellsAll (message : Message) (text : List ℕ) (finish : Finish) (old new : Written) : Type 0 where
+  pub quiet : new.faults ≡ old.faults
   pub status : finish.status ≡ status_of message
   pub replayed : finish.replayed ≡ replayed_of message
   pub written : Appends old.bytes text new.bytes

@@ -1,4 +1,4 @@
-//! The tests of choices, words, spellings, values and cases, with the checks that only tests need.
+//! The tests of choices, words, spellings, values, cases and the outside, with the checks that only tests need.
 //!
 //! They stand apart from the crates that they test, since a crate with tests is proved twice.
 #![tactic(auto)]
@@ -17,6 +17,8 @@ mod lists;
 mod names;
 #[cfg(test)]
 mod orders;
+#[cfg(test)]
+mod outside;
 #[cfg(test)]
 mod plain;
 #[cfg(test)]
