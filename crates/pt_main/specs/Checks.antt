@@ -1,10 +1,12 @@
 -- What the example checks mean.
-use Rattle.std.specs.Prelude.{ℕ, List, [], ◌∷◌, codes}
+use Rattle.std.specs.Prelude.{ℕ, List, [], codes}
 use Rattle.pt_choice.specs.declared.choice.Choice.{Choice}
-use Rattle.pt_choice.specs.declared.kind.Shape.TheVariants.{Bool}
+use Rattle.pt_case.specs.declared.ending.Ending.{Ending}
 use Rattle.pt_case.specs.declared.ending.Ending.TheVariants.{Pass, Fail}
 use Rattle.pt_case.specs.declared.ending.Origin.TheVariants.{Point}
-use Rattle.pt_case.specs.Step.{Answer, Ask, End}
+use Rattle.pt_case.specs.Step.{Answer, End}
+use Rattle.pt_plan.specs.Asked.{asked_flag}
+use Rattle.pt_plan.specs.Plan.{Plan, Gives, and_then}
 
 abbrev pub never_name : List ℕ
 never_name = codes "never"
@@ -13,9 +15,8 @@ abbrev pub always_name : List ℕ
 always_name = codes "always"
 
 -- one fair boolean, and then it passes
-abbrev pub never_answer : List Choice → Answer
-never_answer [] = Ask (Bool 8) [] []
-never_answer (choice ∷ choices) = End Pass [] []
+abbrev pub never_plan : Plan Ending
+never_plan = and_then (asked_flag 8) (λ flag. Gives Pass)
 
 -- it fails at once
 abbrev pub always_answer : List Choice → Answer

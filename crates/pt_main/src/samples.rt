@@ -1,16 +1,17 @@
 //! Checks for the tests.
 
-ghost use Rattle.std.specs.Prelude.{◌≡◌, [], false, IfOk};
+ghost use Rattle.std.specs.Prelude.{◌≡◌, [], false};
 ghost use Rattle.pt_case.specs.Ending.{is_overrun};
-ghost use Rattle.pt_case.specs.Run.{Ran};
-ghost use Rattle.pt_case.specs.State.{IsNew};
 ghost use Rattle.pt_case.specs.Step.{End};
-ghost use Rattle.pt_case.specs.UnderWay.{ending_of};
-ghost use Rattle.pt_main.specs.Samples.{noting_answer};
+ghost use Rattle.pt_plan.specs.Came.{Drew};
+ghost use Rattle.pt_plan.specs.Ended.{Settles};
+ghost use Rattle.pt_plan.specs.Says.{plan_says};
+ghost use Rattle.pt_plan.specs.Stop.{draw_halt};
+ghost use Rattle.pt_main.specs.Samples.{noting_plan};
 
-use crate::never::fair;
-use pt_case::{Case, Check, Ending, Origin, Stop};
+use pt_case::{Case, Check, Ending, Origin};
 use pt_choice::NoMemory;
+use pt_plan::{DrawStop, ask_flag, ending_of, note};
 use pt_val::{Name, Val};
 
 /// Draws nothing, and ends so.
@@ -44,23 +45,23 @@ pub struct Noting {
 impl Check for Noting {
     ghost name = { λ check. check.name };
 
-    ghost step = { λ check choices said. said ≡ noting_answer check.name choices };
+    ghost step = { λ check. plan_says (noting_plan check.name) };
 
     fn name(&self) -> &Name {
         &self.name
     }
 
     fn run(&self, case: &mut Case) -> Result<Ending, NoMemory> {
-        Ending::of(notes_and_fails(&self.name, case))
+        ending_of(notes_and_fails(&self.name, case))
     }
 }
 
-fn notes_and_fails(name: &Name, case: &mut Case) -> Result<Ending, Stop>
-    requires { IsNew case.old }
-    ensures { IfOk (ending_of result) (λ ending. Ran (λ choices said. said ≡ noting_answer name.now choices) case.old case.new ending) }
+fn notes_and_fails(name: &Name, case: &mut Case) -> Result<Ending, DrawStop>
+    ensures drew { Drew draw_halt (noting_plan name.now) case.old case.new result }
+    ensures settles { Settles result }
 {
-    case.note(name.copy()?, Val::Int(1))?;
-    case.draw(&fair())?;
-    case.note(name.copy()?, Val::Int(2))?;
-    Ok(Ending::Fail(Origin::Point(2)))
+    note(case, name.copy()?, Val::Int(1))?;
+    ask_flag(case, 8)?;
+    note(case, name.copy()?, Val::Int(2))?;
+    Err(DrawStop::Fault(Origin::Point(2)))
 }

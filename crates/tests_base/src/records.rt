@@ -1,8 +1,10 @@
 //! Records of lists and of runs, and what a check asks for after them, worked by hand.
 
-use crate::checks::{Always, Endless, Nested, Never, Noted};
+use crate::checks::{Always, Crowded, Nested, Never, Noted};
+use crate::rising::Rising;
 use crate::sample::Sample::{self, Flag, Number};
 use crate::sample::choices_of;
+use crate::small::Small;
 use pt_case::{Check, Ending, Note, Origin, Record, Span, asks, fresh, replay};
 use pt_choice::{NoMemory, Shape};
 use pt_val::{Name, Val, same};
@@ -205,8 +207,8 @@ fn the_notes_so_far_are_in_the_record(rt: HostRuntime) -> Result<(), Fail> {
 #[test]
 fn a_check_that_enters_a_span_too_many_is_cut(rt: HostRuntime) -> Result<(), Fail> {
     let alloc = rt.alloc();
-    let check = Endless {
-        name: Name::of(alloc, "endless")?,
+    let check = Crowded {
+        name: Name::of(alloc, "crowded")?,
     };
     let given = choices_of(alloc, &[Flag(true)])?;
     let rec = replay(alloc, &check, &given)?;
@@ -217,5 +219,86 @@ fn a_check_that_enters_a_span_too_many_is_cut(rt: HostRuntime) -> Result<(), Fai
         assert_eq!(rt; (one.label, one.from, one.to, one.parent), (1, 0, 0, None));
     }
     assert!(rt; asks(alloc, &check, &given)?.is_none());
+    Ok(())
+}
+
+#[test]
+fn a_small_number_passes(rt: HostRuntime) -> Result<(), Fail> {
+    let check = Small {
+        name: Name::of(rt.alloc(), "small")?,
+    };
+    let rows: [(&[Sample], Shown, Option<Shape>); 4] = [
+        (&[], plain(&[], Ending::Overrun), Some(DIGIT)),
+        (&[Number(4)], plain(&[Number(4)], Ending::Pass), None),
+        (&[Number(5)], plain(&[Number(5)], FAILED), None),
+        (&[Number(100)], plain(&[Number(0)], Ending::Pass), None),
+    ];
+    for (given, wanted, asked) in rows {
+        assert_eq!(rt;
+            leaves(rt.alloc(), &check, given, wanted, asked),
+            Ok(true),
+            "{given:?}"
+        );
+    }
+    Ok(())
+}
+
+// The spans of two digits, which were both drawn.
+const BOTH: [(u32, u16, u16, Option<u16>); 3] = [(1, 0, 2, None), (2, 0, 1, Some(0)), (2, 1, 2, Some(0))];
+
+#[test]
+fn draws_in_spans_pass_reject_fail_and_overrun_in_their_middle(rt: HostRuntime) -> Result<(), Fail> {
+    let check = Rising {
+        name: Name::of(rt.alloc(), "rising")?,
+    };
+    let rows: [(&[Sample], Shown, Option<Shape>); 4] = [
+        (
+            &[Number(3)],
+            Shown {
+                choices: &[Number(3)],
+                spans: &[(1, 0, 1, None), (2, 0, 1, Some(0)), (2, 1, 1, Some(0))],
+                notes: &[],
+                ending: Ending::Overrun,
+            },
+            Some(DIGIT),
+        ),
+        (
+            &[Number(3), Number(8)],
+            Shown {
+                choices: &[Number(3), Number(8)],
+                spans: &BOTH,
+                notes: &[true],
+                ending: Ending::Pass,
+            },
+            None,
+        ),
+        (
+            &[Number(7), Number(3)],
+            Shown {
+                choices: &[Number(7), Number(3)],
+                spans: &BOTH,
+                notes: &[false],
+                ending: Ending::Reject,
+            },
+            None,
+        ),
+        (
+            &[Number(3), Number(9)],
+            Shown {
+                choices: &[Number(3), Number(9)],
+                spans: &BOTH,
+                notes: &[true],
+                ending: Ending::Fail(Origin::Point(2)),
+            },
+            None,
+        ),
+    ];
+    for (given, wanted, asked) in rows {
+        assert_eq!(rt;
+            leaves(rt.alloc(), &check, given, wanted, asked),
+            Ok(true),
+            "{given:?}"
+        );
+    }
     Ok(())
 }
