@@ -21,7 +21,7 @@ impl Model for Chars {
 }
 
 impl Chars {
-    /// No characters. Takes no memory.
+    /// No characters.
     pub fn empty(alloc: Global) -> Chars
         ensures { result ≡ [] }
     {

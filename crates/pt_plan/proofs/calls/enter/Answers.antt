@@ -12,4 +12,4 @@ opens (Ok u) old new label entered = rw entered.kept (open-entered old.regions _
 opens (Err why) old new label entered = tt
 
 pub returns-clause-entered : goal.returns-clause-entered
-returns-clause-entered c = opens c.enter.result c.args.case.now c.enter.new.self c.args.label c.enter.ensures.entered
+returns-clause-entered c = opens c.enter.result c.args.case.now c.enter.new.self _ c.enter.ensures.entered
