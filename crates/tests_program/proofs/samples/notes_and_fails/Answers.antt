@@ -8,9 +8,9 @@ use Rattle.pt_case.specs.declared.note.Note.{Note}
 use Rattle.pt_case.specs.Step.{Answer}
 use Rattle.pt_case.specs.State.{State, new_state, after_draw, after_note}
 use Rattle.pt_case.specs.Run.{Ran}
-use Rattle.pt_main.specs.Samples.{noting_answer}
+use Rattle.tests_program.specs.Samples.{noting_answer}
 use Rattle.pt_case.proofs.UnderWayLemmas.{new-is, under_way-new, note-on, draw-on, ran-stopped, ran-ended, says-function}
-use Rattle.pt_main.proofs.samples.notes_and_fails.Goals as goal
+use Rattle.tests_program.proofs.samples.notes_and_fails.Goals as goal
 
 pub returns-in_err-draw : goal.returns-in_err-draw
 returns-in_err-draw c =
