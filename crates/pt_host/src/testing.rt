@@ -1,5 +1,6 @@
-ghost use Rattle.std.specs.Prelude.{◌≡◌, IfOk, OnErr};
+ghost use Rattle.std.specs.Prelude.{◌≡◌, ◌⊎◌, IfOk, OnErr};
 ghost use Rattle.std.specs.Process.{exit_status};
+ghost use Rattle.pt_run.specs.Message.{IsStatus};
 ghost use Rattle.pt_run.specs.Suite.{HaveOwnNames};
 
 use crate::command_line::words;
@@ -19,6 +20,7 @@ pub const OUT_OF_MEMORY: u8 = 7;
 /// ask for, with the files of the machine and its standard output, and answers the exit status.
 pub fn tester<R: Env + Files + Print + AllocGlobal, C: Check>(rt: &R, checks: &[C]) -> ExitCode
     requires { HaveOwnNames C.name checks.now }
+    ensures { IsStatus (exit_status result) ⊎ (exit_status result ≡ 7) }
 {
     exit_code(over_the_machine(rt, checks))
 }
@@ -28,6 +30,7 @@ fn over_the_machine<R: Env + Files + Print + AllocGlobal, C: Check>(
     checks: &[C],
 ) -> Result<Finish, NoMemory>
     requires { HaveOwnNames C.name checks.now }
+    ensures { IfOk result (λ finish. IsStatus finish.status) }
 {
     let words = words(rt)?;
     let mut files = RealFiles::of(rt);

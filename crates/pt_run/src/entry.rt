@@ -4,6 +4,7 @@ ghost use Rattle.pt_io.specs.Files.{IsSame};
 ghost use Rattle.pt_run.specs.Call.{Answers, call, outside};
 ghost use Rattle.pt_run.specs.Command.{asked_by};
 ghost use Rattle.pt_run.specs.Due.{IsDue, SaysOf};
+ghost use Rattle.pt_run.specs.Message.{IsStatus};
 ghost use Rattle.pt_run.specs.Suite.{HaveOwnNames};
 ghost use Rattle.pt_run.specs.Words.{Asked, Asks, AskNothing};
 
@@ -32,6 +33,8 @@ pub fn top<F: Files, K: Sink, C: Check>(
     // What is due is written whole, with its status, or a first part of it, with status 5.
     ensures told { IfOk result (λ finish. Answers C.name C.step checks.now (call words.now
         (outside (F.shows files.old) (K.shows sink.old)) (outside (F.shows files.new) (K.shows sink.new)) finish)) }
+
+    ensures status { IfOk result (λ finish. IsStatus finish.status) }
 
     // After want of memory the sink is as it was, and no call of the files has failed.
     ensures nothing { OnErr result (sink.new ≡ sink.old) }

@@ -2,8 +2,9 @@ use Rattle.std.proofs.Common.{◌≡◌, inl, inr, OnErr, ap}
 use Rattle.pt_run.specs.Call.{Answers, call, outside}
 use Rattle.pt_run.specs.Command.{asked_by}
 use Rattle.pt_run.specs.Due.{IsAnswer, IsDue}
-use Rattle.pt_run.specs.Message.{Tells}
+use Rattle.pt_run.specs.Message.{IsStatus, Tells}
 use Rattle.pt_run.proofs.Messages.{IfOk-follows, OnErr-always, OnErr-never}
+use Rattle.pt_run.proofs.Statuses.{told_status}
 use Rattle.pt_run.proofs.entry.top.Goals as goal
 use Rattle.pt_run.proofs.entry.top.Goals.{in-Some+in_ok-message-in-Some, in-None}
 
@@ -22,6 +23,13 @@ returns-clause-told g c =
     IfOk-follows c.tell.result (λ finish. Tells message finish (sink c.args.sink.now) (sink c.tell.new.sink))
     (λ finish. Answers g.C.Check.name g.C.Check.step c.args.checks.now (call c.args.words.now before after finish)) c.tell.ensures.told
     (λ finish tells. record { message = message; answers = answered; tells = tells })
+
+pub returns-clause-status : goal.returns-clause-status
+returns-clause-status g c =
+    let sink = g.K.Sink.shows in
+    let message = c.match-branch-2.message in
+    IfOk-follows c.tell.result (λ finish. Tells message finish (sink c.args.sink.now) (sink c.tell.new.sink)) (λ finish. IsStatus finish.status)
+    c.tell.ensures.told (λ finish tells. told_status message finish (sink c.args.sink.now) (sink c.tell.new.sink) tells)
 
 -- a refusal is told also where memory runs out, and whatever else is told is told of files that have not failed
 pub returns-clause-quiet : goal.returns-clause-quiet

@@ -7,19 +7,59 @@ ghost use Rattle.pt_plan.specs.Came.{Drew};
 ghost use Rattle.pt_plan.specs.Ended.{Settles};
 ghost use Rattle.pt_plan.specs.Says.{plan_says};
 ghost use Rattle.pt_plan.specs.Stop.{draw_halt};
-ghost use Rattle.pt_main.specs.Samples.{noting_plan};
+ghost use Rattle.tests_program.specs.Samples.{noting_plan};
 
-use pt_case::{Case, Check, Ending, Origin};
+use pt_case::{Case, Check, Ending, Origin, What};
 use pt_choice::NoMemory;
 use pt_plan::{DrawStop, ask_flag, ending_of, note};
-use pt_val::{Name, Val};
+use pt_val::{Name, Place, Val};
+use std::alloc::Global;
+
+/// How a check ends that draws nothing.
+#[derive(Clone, Copy, Debug)]
+pub enum Way {
+    Passes,
+    Rejects,
+    /// It divides by 0 at line 3, column 12 of a suite.
+    Divides,
+}
+
+impl Way {
+    fn ending(self) -> Ending
+        ensures { is_overrun result ≡ false }
+    {
+        const PLACE: Place = Place {
+            line: 3,
+            column: 12,
+        };
+        match self {
+            Way::Passes => Ending::Pass,
+            Way::Rejects => Ending::Reject,
+            Way::Divides => Ending::Fail(Origin::Suite {
+                what: What::Division,
+                place: PLACE,
+            }),
+        }
+    }
+}
 
 /// Draws nothing, and ends so.
 #[derive(Debug, Drop)]
 pub struct Ends {
-    pub name: Name,
-    pub ending: Ending,
-    pub ghost by_itself: { is_overrun ending ≡ false },
+    name: Name,
+    ending: Ending,
+    ghost by_itself: { is_overrun ending ≡ false },
+}
+
+impl Ends {
+    /// The check `sample`, which ends in this way.
+    pub fn of(alloc: Global, way: Way) -> Result<Ends, NoMemory> {
+        let ending = way.ending();
+        match Name::of(alloc, "sample") {
+            Ok(name) => Ok(Ends { name, ending }),
+            Err(_) => Err(NoMemory),
+        }
+    }
 }
 
 impl Check for Ends {
@@ -39,7 +79,17 @@ impl Check for Ends {
 /// Notes 1, draws a boolean, notes 2, and fails at point 2.
 #[derive(Debug, Drop)]
 pub struct Noting {
-    pub name: Name,
+    name: Name,
+}
+
+impl Noting {
+    /// The check `sample`, which notes under its own name.
+    pub fn of(alloc: Global) -> Result<Noting, NoMemory> {
+        match Name::of(alloc, "sample") {
+            Ok(name) => Ok(Noting { name }),
+            Err(_) => Err(NoMemory),
+        }
+    }
 }
 
 impl Check for Noting {

@@ -1,6 +1,6 @@
 use Rattle.pt_plan.proofs.SaysLemmas.{drew-ran}
-use Rattle.pt_main.specs.Samples.{noting_plan}
-use Rattle.pt_main.proofs.samples.NotingCheck.run.Goals as goal
+use Rattle.tests_program.specs.Samples.{noting_plan}
+use Rattle.tests_program.proofs.samples.NotingCheck.run.Goals as goal
 
 pub returns : goal.returns
 returns c =
