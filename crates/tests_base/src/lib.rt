@@ -8,6 +8,8 @@ mod cases;
 #[cfg(test)]
 mod checks;
 #[cfg(test)]
+mod expect;
+#[cfg(test)]
 mod keys;
 #[cfg(test)]
 mod kinds;
