@@ -1,9 +1,8 @@
 ghost use Rattle.std.specs.Prelude.{◌≡◌, IfOk};
 ghost use Rattle.pt_plan.specs.Came.{Drew};
 ghost use Rattle.pt_plan.specs.Ended.{Settles};
-ghost use Rattle.pt_plan.specs.Says.{plan_says};
 ghost use Rattle.pt_plan.specs.Stop.{draw_halt};
-ghost use Rattle.pt_main.specs.Checks.{never_name, never_plan};
+ghost use Rattle.pt_main.specs.Checks.{never_name, never_plan, never_says};
 
 use pt_case::{Case, Check, Ending};
 use pt_choice::NoMemory;
@@ -32,7 +31,7 @@ impl Never {
 impl Check for Never {
     ghost name = { λ check. check.name };
 
-    ghost step = { λ check. plan_says never_plan };
+    ghost step = { λ check. never_says };
 
     fn name(&self) -> &Name {
         &self.name

@@ -3,34 +3,17 @@
 ghost use Rattle.std.specs.Prelude.{◌≡◌};
 ghost use Rattle.pt_choice.specs.declared.kind.Shape.TheVariants.{Bool};
 
-use pt_case::{Case, Ending, Note, Span, Stop};
+use crate::expect::expect;
+use pt_case::{Case, Ending, Note, Notes, Span, Stop};
 use pt_choice::{Choice, Choices, Kind};
 use pt_rng::Supply;
 use pt_val::{Name, NameStop, Val};
 use std::alloc::Global;
-use std::test::Fail;
 
 fn flag() -> Kind
     ensures { result ≡ Bool 8 }
 {
     Kind::of_bool(8).unwrap()
-}
-
-#[test]
-fn a_stopped_case_gives_no_more(rt: HostRuntime) -> Result<(), Fail> {
-    let mut list = Choices::empty(rt.alloc());
-    list.push(Choice::Bool(true))?;
-    let mut case = Case::replay(rt.alloc(), &list)?;
-    assert_eq!(rt; case.enter(1), Ok(()));
-    assert_eq!(rt; case.draw(&flag()), Ok(Choice::Bool(true)));
-    assert!(rt; !case.stopped());
-    assert_eq!(rt; case.draw(&flag()), Err(Stop::Overrun));
-    assert!(rt; case.stopped());
-    assert_eq!(rt; case.enter(1), Err(Stop::Overrun));
-    let rec = case.finish(Ending::Overrun);
-    assert_eq!(rt; rec.choices, list);
-    assert_eq!(rt; rec.spans.as_slice(), [span(1, 0, 1, None)].as_slice());
-    Ok(())
 }
 
 fn span(label: u32, from: u16, to: u16, parent: Option<u16>) -> Span {
@@ -42,63 +25,108 @@ fn span(label: u32, from: u16, to: u16, parent: Option<u16>) -> Span {
     }
 }
 
+// A case over one true, in which a span was entered and the one question answered.
+fn answered(alloc: Global) -> Result<Case, Stop> {
+    let mut list = Choices::empty(alloc);
+    list.push(Choice::Bool(true))?;
+    let mut case = Case::replay(alloc, &list)?;
+    case.enter(1)?;
+    case.draw(&flag())?;
+    Ok(case)
+}
+
+fn gives_no_more(case: &mut Case) -> bool {
+    case.draw(&flag()) == Err(Stop::Overrun) && case.enter(1) == Err(Stop::Overrun)
+}
+
+fn is_stopped(alloc: Global) -> Result<bool, Stop> {
+    let mut case = answered(alloc)?;
+    Ok(!case.stopped() && gives_no_more(&mut case) && case.stopped())
+}
+
+fn is_kept(alloc: Global) -> Result<bool, Stop> {
+    let mut case = answered(alloc)?;
+    let stopped = gives_no_more(&mut case);
+    let rec = case.finish(Ending::Overrun);
+    Ok(
+        stopped
+            && rec.choices.as_slice() == [Choice::Bool(true)].as_slice()
+            && rec.spans.as_slice() == [span(1, 0, 1, None)].as_slice(),
+    )
+}
+
+#[test]
+fn a_stopped_case_gives_no_more(rt: HostRuntime) {
+    expect(&rt, 0, is_stopped(rt.alloc()));
+    expect(&rt, 1, is_kept(rt.alloc()));
+}
+
 fn noted(alloc: Global, case: &mut Case, name: &str) -> Result<(), NameStop> {
     case.note(Name::of(alloc, name)?, Val::Bool(true))?;
     Ok(())
 }
 
-fn is_noted(note: &Note, name: &[u8]) -> bool {
-    note.name.as_slice() == name && matches!(note.val, Val::Bool(true))
+fn is_noted(note: &Note, name: &str) -> bool {
+    note.name.as_slice() == name.as_bytes() && matches!(note.val, Val::Bool(true))
 }
 
-#[test]
-fn notes_before_and_after_an_overrun_stay(rt: HostRuntime) -> Result<(), Fail> {
-    let alloc = rt.alloc();
+// The notes of a case that overran between the two.
+fn notes(alloc: Global) -> Result<Notes, NameStop> {
     let mut case = Case::replay(alloc, &Choices::empty(alloc))?;
     noted(alloc, &mut case, "before")?;
-    assert_eq!(rt; case.draw(&flag()), Err(Stop::Overrun));
+    let _stopped = case.draw(&flag());
     noted(alloc, &mut case, "after")?;
-    let rec = case.finish(Ending::Pass);
-    assert_eq!(rt; rec.notes.len(), 2);
-    for (note, name) in rec.notes.as_slice().iter().zip(["before", "after"]) {
-        assert!(rt; is_noted(note, name.as_bytes()), "{name}");
-    }
-    Ok(())
+    Ok(case.finish(Ending::Pass).notes)
+}
+
+fn stay(alloc: Global) -> Result<bool, NameStop> {
+    let notes = notes(alloc)?;
+    let [before, after] = notes.as_slice() else {
+        return Ok(false);
+    };
+    Ok(is_noted(before, "before") && is_noted(after, "after"))
 }
 
 #[test]
-fn a_case_has_room_for_256_choices(rt: HostRuntime) -> Result<(), Fail> {
-    let mut case = Case::fresh(rt.alloc(), Supply::simplest())?;
+fn notes_before_and_after_an_overrun_stay(rt: HostRuntime) {
+    expect(&rt, 0, stay(rt.alloc()));
+}
+
+fn holds_256_choices(alloc: Global) -> Result<bool, Stop> {
+    let mut case = Case::fresh(alloc, Supply::simplest())?;
     for _ in 0..256 {
-        assert_eq!(rt; case.draw(&flag()), Ok(Choice::Bool(false)));
+        case.draw(&flag())?;
     }
-    assert_eq!(rt; case.draw(&flag()), Err(Stop::Overrun));
-    Ok(())
+    Ok(case.draw(&flag()) == Err(Stop::Overrun))
 }
 
-#[test]
-fn a_case_has_room_for_1024_spans(rt: HostRuntime) -> Result<(), Fail> {
-    let mut case = Case::fresh(rt.alloc(), Supply::simplest())?;
+fn holds_1024_spans(alloc: Global) -> Result<bool, Stop> {
+    let mut case = Case::fresh(alloc, Supply::simplest())?;
     for label in 0..1024 {
-        assert_eq!(rt; case.enter(label), Ok(()));
+        case.enter(label)?;
     }
-    assert_eq!(rt; case.enter(0), Err(Stop::Overrun));
-    assert_eq!(rt; case.draw(&flag()), Err(Stop::Overrun));
+    let stopped = case.enter(0) == Err(Stop::Overrun) && gives_no_more(&mut case);
     let rec = case.finish(Ending::Overrun);
-    assert_eq!(rt; rec.spans.len(), 1024);
     let last = rec.spans.as_slice().last().copied();
-    assert_eq!(rt; last, Some(span(1023, 0, 0, Some(1022))));
-    Ok(())
+    Ok(stopped && rec.spans.len() == 1024 && last == Some(span(1023, 0, 0, Some(1022))))
 }
 
 #[test]
-fn a_span_is_left(rt: HostRuntime) -> Result<(), Fail> {
-    let mut case = Case::fresh(rt.alloc(), Supply::of_run(1, 2))?;
+fn a_case_has_room_for_256_choices_and_1024_spans(rt: HostRuntime) {
+    expect(&rt, 0, holds_256_choices(rt.alloc()));
+    expect(&rt, 1, holds_1024_spans(rt.alloc()));
+}
+
+fn is_left(alloc: Global) -> Result<bool, Stop> {
+    let mut case = Case::fresh(alloc, Supply::of_run(1, 2))?;
     case.enter(7)?;
     case.leave();
     case.enter(8)?;
     let rec = case.finish(Ending::Reject);
-    let spans = [span(7, 0, 0, None), span(8, 0, 0, None)];
-    assert_eq!(rt; rec.spans.as_slice(), spans.as_slice());
-    Ok(())
+    Ok(rec.spans.as_slice() == [span(7, 0, 0, None), span(8, 0, 0, None)].as_slice())
+}
+
+#[test]
+fn a_span_is_left(rt: HostRuntime) {
+    expect(&rt, 0, is_left(rt.alloc()));
 }

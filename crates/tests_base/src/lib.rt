@@ -1,4 +1,4 @@
-//! The tests of choices, words, spellings, values, cases and plans, with the checks that only tests need.
+//! The tests of choices, words, spellings, values, cases, plans and the outside, with the checks that only tests need.
 //!
 //! They stand apart from the crates that they test, since a crate with tests is proved twice.
 #![tactic(auto)]
@@ -7,6 +7,8 @@
 mod cases;
 #[cfg(test)]
 mod checks;
+#[cfg(test)]
+mod expect;
 #[cfg(test)]
 mod keys;
 #[cfg(test)]
@@ -17,6 +19,8 @@ mod lists;
 mod names;
 #[cfg(test)]
 mod orders;
+#[cfg(test)]
+mod outside;
 #[cfg(test)]
 mod plain;
 #[cfg(test)]

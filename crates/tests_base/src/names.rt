@@ -1,8 +1,8 @@
 //! Names, and lists of them.
 
+use crate::expect::expect;
 use pt_val::{Name, NameStop, Names};
 use std::alloc::Global;
-use std::test::Fail;
 
 const NAMES: [&str; 5] = [
     "x1",
@@ -33,35 +33,46 @@ fn is_name(alloc: Global, text: &str) -> Result<bool, NameStop> {
     Ok(name == other && name.copy()?.as_slice() == text.as_bytes())
 }
 
+fn is_no_name(alloc: Global, text: &str) -> Result<bool, NameStop> {
+    let refused = Err(NameStop::NotAName);
+    Ok(Name::of(alloc, text) == refused && Name::of_bytes(alloc, text.as_bytes()) == refused)
+}
+
 #[test]
 fn a_name_is_a_letter_and_letters_digits_and_underscores(rt: HostRuntime) {
-    for text in NAMES {
-        assert_eq!(rt; is_name(rt.alloc(), text), Ok(true), "{text}");
-    }
-    for text in OTHER_TEXTS {
-        assert_eq!(rt;
-            is_name(rt.alloc(), text),
-            Err(NameStop::NotAName),
-            "{text}"
-        );
+    for (row, text) in NAMES.iter().enumerate() {
+        expect(&rt, row, is_name(rt.alloc(), text));
     }
 }
 
-fn names_of(alloc: Global, texts: &[&str]) -> Result<Names, NameStop> {
+#[test]
+fn no_other_text_is_a_name(rt: HostRuntime) {
+    for (row, text) in OTHER_TEXTS.iter().enumerate() {
+        expect(&rt, row, is_no_name(rt.alloc(), text));
+    }
+}
+
+fn names(alloc: Global) -> Result<Names, NameStop> {
     let mut names = Names::empty(alloc);
-    for text in texts {
+    for text in NAMES {
         names.push(Name::of(alloc, text)?)?;
     }
     Ok(names)
 }
 
+fn are_in_order(names: &[Name]) -> bool {
+    names
+        .iter()
+        .zip(NAMES)
+        .all(|(name, text)| name.as_slice() == text.as_bytes())
+}
+
+fn are_kept(alloc: Global) -> Result<bool, NameStop> {
+    let names = names(alloc)?.copy()?;
+    Ok(names.len() == NAMES.len() && are_in_order(names.as_slice()))
+}
+
 #[test]
-fn names_are_kept_in_order(rt: HostRuntime) -> Result<(), Fail> {
-    let names = names_of(rt.alloc(), &NAMES)?;
-    assert_eq!(rt; names.len(), NAMES.len());
-    assert_eq!(rt; names.copy()?.as_slice(), names.as_slice());
-    for (name, text) in names.as_slice().iter().zip(NAMES) {
-        assert_eq!(rt; name.as_slice(), text.as_bytes());
-    }
-    Ok(())
+fn names_are_kept_in_order(rt: HostRuntime) {
+    expect(&rt, 0, are_kept(rt.alloc()));
 }

@@ -1,12 +1,13 @@
 //! Records of lists and of runs, and what a check asks for after them, worked by hand.
 
 use crate::checks::{Always, Crowded, Nested, Never, Noted};
+use crate::expect::expect;
 use crate::rising::Rising;
 use crate::sample::Sample::{self, Flag, Number};
 use crate::sample::choices_of;
 use crate::small::Small;
 use pt_case::{Check, Ending, Note, Origin, Record, Span, asks, fresh, replay};
-use pt_choice::{NoMemory, Shape};
+use pt_choice::{Choices, NoMemory, Shape};
 use pt_val::{Name, Val, same};
 use std::alloc::Global;
 use std::test::Fail;
@@ -15,8 +16,6 @@ const FLAG: Shape = Shape::Bool { chance: 8 };
 
 const DIGIT: Shape = Shape::Int { lo: 0, hi: 9 };
 
-const FAILED: Ending = Ending::Fail(Origin::Point(1));
-
 /// What a record shows, as plain data. Each note is one of a boolean, under the check's name.
 #[derive(Clone, Copy)]
 struct Shown {
@@ -24,16 +23,6 @@ struct Shown {
     spans: &'static [(u32, u16, u16, Option<u16>)],
     notes: &'static [bool],
     ending: Ending,
-}
-
-// A record of these choices, with no span and no note.
-fn plain(choices: &'static [Sample], ending: Ending) -> Shown {
-    Shown {
-        choices,
-        spans: &[],
-        notes: &[],
-        ending,
-    }
 }
 
 fn are_spans(spans: &[Span], wanted: &[(u32, u16, u16, Option<u16>)]) -> bool {
@@ -73,232 +62,307 @@ fn leaves<C: Check>(
     Ok(shows(alloc, &rec, check.name(), wanted)? && kind.map(|kind| kind.shape()) == asked)
 }
 
+/// What the check `Nested` is given, what that leaves, and what it asks for after it.
+const NESTED: [(&[Sample], Shown, Option<Shape>); 5] = [
+    (
+        &[Flag(true), Number(4), Flag(false)],
+        Shown {
+            choices: &[Flag(true), Number(4), Flag(false)],
+            spans: &[(1, 0, 3, None), (2, 1, 3, Some(0)), (3, 2, 3, Some(1))],
+            notes: &[],
+            ending: Ending::Pass,
+        },
+        None,
+    ),
+    (
+        &[Number(7), Number(12), Flag(true), Flag(true)],
+        Shown {
+            choices: &[Flag(false), Number(0), Flag(true)],
+            spans: &[(1, 0, 3, None), (2, 1, 3, Some(0)), (3, 2, 3, Some(1))],
+            notes: &[],
+            ending: Ending::Pass,
+        },
+        None,
+    ),
+    (
+        &[],
+        Shown {
+            choices: &[],
+            spans: &[(1, 0, 0, None)],
+            notes: &[],
+            ending: Ending::Overrun,
+        },
+        Some(FLAG),
+    ),
+    (
+        &[Flag(true)],
+        Shown {
+            choices: &[Flag(true)],
+            spans: &[(1, 0, 1, None), (2, 1, 1, Some(0))],
+            notes: &[],
+            ending: Ending::Overrun,
+        },
+        Some(DIGIT),
+    ),
+    (
+        &[Number(7), Number(12)],
+        Shown {
+            choices: &[Flag(false), Number(0)],
+            spans: &[(1, 0, 2, None), (2, 1, 2, Some(0)), (3, 2, 2, Some(1))],
+            notes: &[],
+            ending: Ending::Overrun,
+        },
+        Some(FLAG),
+    ),
+];
+
 #[test]
 fn a_list_is_made_to_fit_and_overruns_where_it_is_too_short(rt: HostRuntime) -> Result<(), Fail> {
-    let check = Nested {
-        name: Name::of(rt.alloc(), "nested")?,
-    };
-    let rows: [(&[Sample], Shown, Option<Shape>); 5] = [
-        (
-            &[Flag(true), Number(4), Flag(false)],
-            Shown {
-                choices: &[Flag(true), Number(4), Flag(false)],
-                spans: &[(1, 0, 3, None), (2, 1, 3, Some(0)), (3, 2, 3, Some(1))],
-                notes: &[],
-                ending: Ending::Pass,
-            },
-            None,
-        ),
-        (
-            &[Number(7), Number(12), Flag(true), Flag(true)],
-            Shown {
-                choices: &[Flag(false), Number(0), Flag(true)],
-                spans: &[(1, 0, 3, None), (2, 1, 3, Some(0)), (3, 2, 3, Some(1))],
-                notes: &[],
-                ending: Ending::Pass,
-            },
-            None,
-        ),
-        (
-            &[],
-            Shown {
-                choices: &[],
-                spans: &[(1, 0, 0, None)],
-                notes: &[],
-                ending: Ending::Overrun,
-            },
-            Some(FLAG),
-        ),
-        (
-            &[Flag(true)],
-            Shown {
-                choices: &[Flag(true)],
-                spans: &[(1, 0, 1, None), (2, 1, 1, Some(0))],
-                notes: &[],
-                ending: Ending::Overrun,
-            },
-            Some(DIGIT),
-        ),
-        (
-            &[Number(7), Number(12)],
-            Shown {
-                choices: &[Flag(false), Number(0)],
-                spans: &[(1, 0, 2, None), (2, 1, 2, Some(0)), (3, 2, 2, Some(1))],
-                notes: &[],
-                ending: Ending::Overrun,
-            },
-            Some(FLAG),
-        ),
-    ];
-    for (given, wanted, asked) in rows {
-        assert_eq!(rt;
-            leaves(rt.alloc(), &check, given, wanted, asked),
-            Ok(true),
-            "{given:?}"
-        );
+    let name = Name::of(rt.alloc(), "nested")?;
+    let check = Nested { name };
+    for (row, (given, shown, asked)) in NESTED.iter().enumerate() {
+        expect(&rt, row, leaves(rt.alloc(), &check, given, *shown, *asked));
     }
     Ok(())
 }
 
+/// The same of the check `Never`.
+const NEVER: [(&[Sample], Shown, Option<Shape>); 2] = [
+    (
+        &[],
+        Shown {
+            choices: &[],
+            spans: &[],
+            notes: &[],
+            ending: Ending::Overrun,
+        },
+        Some(FLAG),
+    ),
+    (
+        &[Flag(true)],
+        Shown {
+            choices: &[Flag(true)],
+            spans: &[],
+            notes: &[],
+            ending: Ending::Pass,
+        },
+        None,
+    ),
+];
+
 #[test]
 fn a_check_asks_and_passes(rt: HostRuntime) -> Result<(), Fail> {
-    let check = Never {
-        name: Name::of(rt.alloc(), "never")?,
-    };
-    assert_eq!(rt; check.name().as_slice(), b"never".as_slice());
-    let rows: [(&[Sample], Shown, Option<Shape>); 2] = [
-        (&[], plain(&[], Ending::Overrun), Some(FLAG)),
-        (&[Flag(true)], plain(&[Flag(true)], Ending::Pass), None),
-    ];
-    for (given, wanted, asked) in rows {
-        assert_eq!(rt;
-            leaves(rt.alloc(), &check, given, wanted, asked),
-            Ok(true),
-            "{given:?}"
-        );
+    let name = Name::of(rt.alloc(), "never")?;
+    let check = Never { name };
+    for (row, (given, shown, asked)) in NEVER.iter().enumerate() {
+        expect(&rt, row, leaves(rt.alloc(), &check, given, *shown, *asked));
     }
     Ok(())
+}
+
+/// The same of the check `Noted`, which notes a boolean before its question and one after it.
+const NOTED: [(&[Sample], Shown, Option<Shape>); 2] = [
+    (
+        &[],
+        Shown {
+            choices: &[],
+            spans: &[],
+            notes: &[true],
+            ending: Ending::Overrun,
+        },
+        Some(FLAG),
+    ),
+    (
+        &[Flag(true)],
+        Shown {
+            choices: &[Flag(true)],
+            spans: &[],
+            notes: &[true, false],
+            ending: Ending::Pass,
+        },
+        None,
+    ),
+];
+
+#[test]
+fn the_notes_so_far_are_in_the_record(rt: HostRuntime) -> Result<(), Fail> {
+    let name = Name::of(rt.alloc(), "noted")?;
+    let check = Noted { name };
+    for (row, (given, shown, asked)) in NOTED.iter().enumerate() {
+        expect(&rt, row, leaves(rt.alloc(), &check, given, *shown, *asked));
+    }
+    Ok(())
+}
+
+const FAILED: Shown = Shown {
+    choices: &[],
+    spans: &[],
+    notes: &[],
+    ending: Ending::Fail(Origin::Point(1)),
+};
+
+fn run_shows<C: Check>(alloc: Global, check: &C, wanted: Shown) -> Result<bool, NoMemory> {
+    let rec = fresh(alloc, check, 1, 0)?;
+    Ok(
+        rec.ending.is_failure()
+            && !rec.ending.is_pass()
+            && shows(alloc, &rec, check.name(), wanted)?,
+    )
 }
 
 #[test]
 fn a_boxed_check_fails(rt: HostRuntime) -> Result<(), Fail> {
-    let alloc = rt.alloc();
-    let name = Name::of(alloc, "always")?;
-    let check: Box<dyn Check> = Box::new(alloc, Always { name })?;
-    let failed = plain(&[], FAILED);
-    assert_eq!(rt; leaves(alloc, &check, &[Number(1)], failed, None), Ok(true));
-    let rec = fresh(alloc, &check, 1, 0)?;
-    assert_eq!(rt; shows(alloc, &rec, check.name(), failed), Ok(true));
-    assert!(rt; rec.ending.is_failure() && !rec.ending.is_pass());
+    let name = Name::of(rt.alloc(), "always")?;
+    let check: Box<dyn Check> = Box::new(rt.alloc(), Always { name })?;
+    expect(
+        &rt,
+        0,
+        leaves(rt.alloc(), &check, &[Number(1)], FAILED, None),
+    );
+    expect(&rt, 1, run_shows(rt.alloc(), &check, FAILED));
     Ok(())
 }
 
-#[test]
-fn the_notes_so_far_are_in_the_record(rt: HostRuntime) -> Result<(), Fail> {
-    let check = Noted {
-        name: Name::of(rt.alloc(), "noted")?,
-    };
-    let rows: [(&[Sample], &[Sample], &[bool], Ending, Option<Shape>); 2] = [
-        (&[], &[], &[true], Ending::Overrun, Some(FLAG)),
-        (
-            &[Flag(true)],
-            &[Flag(true)],
-            &[true, false],
-            Ending::Pass,
-            None,
-        ),
-    ];
-    for (given, choices, notes, ending, asked) in rows {
-        let wanted = Shown {
-            choices,
-            spans: &[],
-            notes,
-            ending,
-        };
-        assert_eq!(rt;
-            leaves(rt.alloc(), &check, given, wanted, asked),
-            Ok(true),
-            "{given:?}"
-        );
-    }
-    Ok(())
+fn is_first(span: &Span) -> bool {
+    (span.label, span.from, span.to, span.parent) == (1, 0, 0, None)
+}
+
+fn is_cut(alloc: Global, check: &Crowded) -> Result<bool, NoMemory> {
+    let given = choices_of(alloc, &[Flag(true)])?;
+    let rec = replay(alloc, check, &given)?;
+    Ok(
+        rec.choices.len() == 0
+            && rec.ending == Ending::Overrun
+            && rec.spans.len() == 1024
+            && rec.spans.as_slice().iter().all(is_first),
+    )
+}
+
+fn asks_nothing(alloc: Global, check: &Crowded) -> Result<bool, NoMemory> {
+    Ok(asks(alloc, check, &Choices::empty(alloc))?.is_none())
 }
 
 #[test]
 fn a_check_that_enters_a_span_too_many_is_cut(rt: HostRuntime) -> Result<(), Fail> {
-    let alloc = rt.alloc();
-    let check = Crowded {
-        name: Name::of(alloc, "crowded")?,
-    };
-    let given = choices_of(alloc, &[Flag(true)])?;
-    let rec = replay(alloc, &check, &given)?;
-    assert_eq!(rt; rec.choices.len(), 0);
-    assert_eq!(rt; rec.ending, Ending::Overrun);
-    assert_eq!(rt; rec.spans.len(), 1024);
-    for one in rec.spans.as_slice() {
-        assert_eq!(rt; (one.label, one.from, one.to, one.parent), (1, 0, 0, None));
-    }
-    assert!(rt; asks(alloc, &check, &given)?.is_none());
+    let name = Name::of(rt.alloc(), "crowded")?;
+    let check = Crowded { name };
+    expect(&rt, 0, is_cut(rt.alloc(), &check));
+    expect(&rt, 1, asks_nothing(rt.alloc(), &check));
     Ok(())
 }
+
+/// The same of the check `Small`.
+const SMALL: [(&[Sample], Shown, Option<Shape>); 4] = [
+    (
+        &[],
+        Shown {
+            choices: &[],
+            spans: &[],
+            notes: &[],
+            ending: Ending::Overrun,
+        },
+        Some(DIGIT),
+    ),
+    (
+        &[Number(4)],
+        Shown {
+            choices: &[Number(4)],
+            spans: &[],
+            notes: &[],
+            ending: Ending::Pass,
+        },
+        None,
+    ),
+    (
+        &[Number(5)],
+        Shown {
+            choices: &[Number(5)],
+            spans: &[],
+            notes: &[],
+            ending: Ending::Fail(Origin::Point(1)),
+        },
+        None,
+    ),
+    (
+        &[Number(100)],
+        Shown {
+            choices: &[Number(0)],
+            spans: &[],
+            notes: &[],
+            ending: Ending::Pass,
+        },
+        None,
+    ),
+];
 
 #[test]
 fn a_small_number_passes(rt: HostRuntime) -> Result<(), Fail> {
-    let check = Small {
-        name: Name::of(rt.alloc(), "small")?,
-    };
-    let rows: [(&[Sample], Shown, Option<Shape>); 4] = [
-        (&[], plain(&[], Ending::Overrun), Some(DIGIT)),
-        (&[Number(4)], plain(&[Number(4)], Ending::Pass), None),
-        (&[Number(5)], plain(&[Number(5)], FAILED), None),
-        (&[Number(100)], plain(&[Number(0)], Ending::Pass), None),
-    ];
-    for (given, wanted, asked) in rows {
-        assert_eq!(rt;
-            leaves(rt.alloc(), &check, given, wanted, asked),
-            Ok(true),
-            "{given:?}"
-        );
+    let name = Name::of(rt.alloc(), "small")?;
+    let check = Small { name };
+    for (row, (given, shown, asked)) in SMALL.iter().enumerate() {
+        expect(&rt, row, leaves(rt.alloc(), &check, given, *shown, *asked));
     }
     Ok(())
 }
 
-// The spans of two digits, which were both drawn.
-const BOTH: [(u32, u16, u16, Option<u16>); 3] = [(1, 0, 2, None), (2, 0, 1, Some(0)), (2, 1, 2, Some(0))];
+/// The spans of two digits, which were both drawn.
+const BOTH: [(u32, u16, u16, Option<u16>); 3] = [
+    (1, 0, 2, None),
+    (2, 0, 1, Some(0)),
+    (2, 1, 2, Some(0)),
+];
+
+/// The same of the check `Rising`, which draws in nested spans: the list ends in the middle of its draws, and then it
+/// passes, rejects and fails.
+const RISING: [(&[Sample], Shown, Option<Shape>); 4] = [
+    (
+        &[Number(3)],
+        Shown {
+            choices: &[Number(3)],
+            spans: &[(1, 0, 1, None), (2, 0, 1, Some(0)), (2, 1, 1, Some(0))],
+            notes: &[],
+            ending: Ending::Overrun,
+        },
+        Some(DIGIT),
+    ),
+    (
+        &[Number(3), Number(8)],
+        Shown {
+            choices: &[Number(3), Number(8)],
+            spans: &BOTH,
+            notes: &[true],
+            ending: Ending::Pass,
+        },
+        None,
+    ),
+    (
+        &[Number(7), Number(3)],
+        Shown {
+            choices: &[Number(7), Number(3)],
+            spans: &BOTH,
+            notes: &[false],
+            ending: Ending::Reject,
+        },
+        None,
+    ),
+    (
+        &[Number(3), Number(9)],
+        Shown {
+            choices: &[Number(3), Number(9)],
+            spans: &BOTH,
+            notes: &[true],
+            ending: Ending::Fail(Origin::Point(2)),
+        },
+        None,
+    ),
+];
 
 #[test]
-fn draws_in_spans_pass_reject_fail_and_overrun_in_their_middle(rt: HostRuntime) -> Result<(), Fail> {
-    let check = Rising {
-        name: Name::of(rt.alloc(), "rising")?,
-    };
-    let rows: [(&[Sample], Shown, Option<Shape>); 4] = [
-        (
-            &[Number(3)],
-            Shown {
-                choices: &[Number(3)],
-                spans: &[(1, 0, 1, None), (2, 0, 1, Some(0)), (2, 1, 1, Some(0))],
-                notes: &[],
-                ending: Ending::Overrun,
-            },
-            Some(DIGIT),
-        ),
-        (
-            &[Number(3), Number(8)],
-            Shown {
-                choices: &[Number(3), Number(8)],
-                spans: &BOTH,
-                notes: &[true],
-                ending: Ending::Pass,
-            },
-            None,
-        ),
-        (
-            &[Number(7), Number(3)],
-            Shown {
-                choices: &[Number(7), Number(3)],
-                spans: &BOTH,
-                notes: &[false],
-                ending: Ending::Reject,
-            },
-            None,
-        ),
-        (
-            &[Number(3), Number(9)],
-            Shown {
-                choices: &[Number(3), Number(9)],
-                spans: &BOTH,
-                notes: &[true],
-                ending: Ending::Fail(Origin::Point(2)),
-            },
-            None,
-        ),
-    ];
-    for (given, wanted, asked) in rows {
-        assert_eq!(rt;
-            leaves(rt.alloc(), &check, given, wanted, asked),
-            Ok(true),
-            "{given:?}"
-        );
+fn draws_in_spans_end_in_each_way(rt: HostRuntime) -> Result<(), Fail> {
+    let name = Name::of(rt.alloc(), "rising")?;
+    let check = Rising { name };
+    for (row, (given, shown, asked)) in RISING.iter().enumerate() {
+        expect(&rt, row, leaves(rt.alloc(), &check, given, *shown, *asked));
     }
     Ok(())
 }

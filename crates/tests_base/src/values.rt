@@ -1,11 +1,11 @@
 //! Values: their text, their size, their types, their copies, and which are the same.
 
+use crate::expect::expect;
 use crate::plain::Plain::{self, Bool, Bytes, Int, List, Node, Text, Tuple};
 use crate::plain::value_of;
 use pt_choice::NoMemory;
 use pt_val::{Chars, Ty, Tys, Val, Vals, has_type, same, show, size};
 use std::alloc::Global;
-use std::test::Fail;
 
 /// Values, of which no two are the same, with the text and the size of each.
 const VALUES: [(Plain, &str, u64); 27] = [
@@ -57,22 +57,25 @@ fn has_text_and_size(
     Ok(show(alloc, &copy)?.as_slice() == text.as_bytes() && size(&copy) == wanted)
 }
 
-// Whether the value is the same as its copy.
-fn are_same(alloc: Global, one: Plain, other: Plain) -> Result<bool, NoMemory> {
-    Ok(same(&value_of(alloc, &one)?, &value_of(alloc, &other)?.copy()?))
+#[test]
+fn values_have_their_text_and_size(rt: HostRuntime) {
+    for (row, (value, text, size)) in VALUES.iter().enumerate() {
+        expect(&rt, row, has_text_and_size(rt.alloc(), *value, text, *size));
+    }
+}
+
+// Whether the one value is the same as a copy of the other, exactly where it should be.
+fn compare(alloc: Global, one: Plain, other: Plain, want: bool) -> Result<bool, NoMemory> {
+    let one = value_of(alloc, &one)?;
+    let other = value_of(alloc, &other)?.copy()?;
+    Ok(same(&one, &other) == want)
 }
 
 #[test]
-fn values_have_their_text_and_size_and_no_two_are_the_same(rt: HostRuntime) {
-    for (i, (one, text, size)) in VALUES.iter().enumerate() {
-        let has = has_text_and_size(rt.alloc(), *one, text, *size);
-        assert_eq!(rt; has, Ok(true), "{text}");
+fn no_two_values_are_the_same(rt: HostRuntime) {
+    for (i, (one, _, _)) in VALUES.iter().enumerate() {
         for (j, (other, _, _)) in VALUES.iter().enumerate() {
-            assert_eq!(rt;
-                are_same(rt.alloc(), *one, *other),
-                Ok(i == j),
-                "{text}, {j}"
-            );
+            expect(&rt, i, compare(rt.alloc(), *one, *other, i == j));
         }
     }
 }
@@ -127,14 +130,15 @@ const TYPINGS: [(Plain, Wanted, bool); 14] = [
     (Node(1, &[Int(2)]), Wanted::Tree, false),
 ];
 
-fn is_of(alloc: Global, plain: Plain, wanted: Wanted) -> Result<bool, NoMemory> {
-    Ok(has_type(&value_of(alloc, &plain)?, &type_of(alloc, wanted)?))
+fn is_typed(alloc: Global, plain: Plain, wanted: Wanted, want: bool) -> Result<bool, NoMemory> {
+    let value = value_of(alloc, &plain)?;
+    Ok(has_type(&value, &type_of(alloc, wanted)?) == want)
 }
 
 #[test]
 fn a_value_is_of_its_type_and_no_other(rt: HostRuntime) {
-    for (i, (plain, ty, wanted)) in TYPINGS.iter().enumerate() {
-        assert_eq!(rt; is_of(rt.alloc(), *plain, *ty), Ok(*wanted), "row {i}");
+    for (row, (plain, ty, want)) in TYPINGS.iter().enumerate() {
+        expect(&rt, row, is_typed(rt.alloc(), *plain, *ty, *want));
     }
 }
 
@@ -158,24 +162,33 @@ fn nested_type(alloc: Global, levels: u8) -> Result<Ty, NoMemory> {
     Ok(ty)
 }
 
-#[test]
-fn a_value_may_be_64_levels_deep(rt: HostRuntime) -> Result<(), Fail> {
-    let value = nested(rt.alloc(), 64)?;
-    assert_eq!(rt; size(&value), 65);
-    assert!(rt; has_type(&value, &nested_type(rt.alloc(), 64)?));
-    assert!(rt; same(&value, &value.copy()?));
-    assert_eq!(rt; show(rt.alloc(), &value)?.len(), 129);
-    Ok(())
+fn is_deep(alloc: Global, levels: u8) -> Result<bool, NoMemory> {
+    let value = nested(alloc, levels)?.copy()?;
+    Ok(size(&value) == u64::from(levels) + 1 && has_type(&value, &nested_type(alloc, levels)?))
+}
+
+// The text is the number between so many brackets on each side.
+fn is_printed(alloc: Global, levels: u8) -> Result<bool, NoMemory> {
+    let value = nested(alloc, levels)?;
+    let shown = show(alloc, &value)?;
+    Ok(same(&value, &nested(alloc, levels)?) && shown.len() == 2 * usize::from(levels) + 1)
 }
 
 #[test]
-fn characters_are_kept_in_order(rt: HostRuntime) -> Result<(), Fail> {
-    let mut chars = Chars::empty(rt.alloc());
-    assert_eq!(rt; chars.len(), 0);
+fn a_value_may_be_64_levels_deep(rt: HostRuntime) {
+    expect(&rt, 0, is_deep(rt.alloc(), 64));
+    expect(&rt, 1, is_printed(rt.alloc(), 64));
+}
+
+fn are_kept(alloc: Global) -> Result<bool, NoMemory> {
+    let mut chars = Chars::empty(alloc);
     chars.push('a')?;
     chars.push('\u{10ffff}')?;
     let copy = chars.copy()?;
-    assert_eq!(rt; copy.len(), 2);
-    assert!(rt; copy.as_slice() == ['a', '\u{10ffff}'].as_slice());
-    Ok(())
+    Ok(copy.len() == 2 && copy.as_slice() == ['a', '\u{10ffff}'].as_slice())
+}
+
+#[test]
+fn characters_are_kept_in_order(rt: HostRuntime) {
+    expect(&rt, 0, are_kept(rt.alloc()));
 }

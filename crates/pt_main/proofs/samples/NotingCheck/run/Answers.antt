@@ -1,7 +1,0 @@
-use Rattle.pt_plan.proofs.SaysLemmas.{drew-ran}
-use Rattle.pt_main.specs.Samples.{noting_plan}
-use Rattle.pt_main.proofs.samples.NotingCheck.run.Goals as goal
-
-pub returns : goal.returns
-returns c =
-    rw c.ending_of.ensures (drew-ran (noting_plan c.args.self.now.name) c.requires c.notes_and_fails.ensures.settles c.notes_and_fails.ensures.drew)
