@@ -1,5 +1,4 @@
 use Rattle.std.proofs.Common.{◌≡◌, Err, rules}
-use Rattle.pt_case.specs.State.{State}
 use Rattle.pt_plan.specs.Stop.{draw_stop_of}
 use Rattle.pt_plan.proofs.DrewLemmas.{leads-new, leads-unused, leads-entered, leads-left, drew-unused, drew-entered, drew-ended}
 use Rattle.tests_base.specs.Checks.{nested_plan}

@@ -1,9 +1,9 @@
-use Rattle.std.proofs.Common.{◌≡◌, ◌+◌, ◌-◌, ◌<◌, ℕ, suc, Err, ap, refl, rules, arith}
+use Rattle.std.proofs.Common.{◌≡◌, ◌+◌, ◌-◌, ◌<◌, ℕ, suc, Err, ap, rules, arith}
 use Rattle.pt_case.specs.State.{State}
 use Rattle.pt_plan.specs.Stop.{draw_stop_of}
 use Rattle.pt_plan.specs.Plan.{Plan, Enters, Leaves}
 use Rattle.pt_case.specs.declared.ending.Ending.{Ending}
-use Rattle.pt_plan.proofs.DrewLemmas.{Leads, leads-new, leads-is, leads-entered, leads-left, drew-entered, drew-ended}
+use Rattle.pt_plan.proofs.DrewLemmas.{Leads, leads-is, leads-entered, leads-left, drew-entered, drew-ended}
 use Rattle.tests_base.specs.Checks.{crowded_plan}
 use Rattle.tests_base.proofs.checks.enters_spans.Goals as goal
 
