@@ -1,1 +1,3 @@
-pub mod Samples
+pub mod Checks
+pub mod Plans
+pub mod Spans

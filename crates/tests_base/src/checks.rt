@@ -1,27 +1,16 @@
 //! Checks that only tests need.
 
-ghost use Rattle.std.specs.Prelude.{◌≡◌, pos, IfOk};
-ghost use Rattle.pt_choice.specs.declared.kind.Shape.TheVariants.{Bool, Int};
-ghost use Rattle.pt_case.specs.State.{IsNew};
-ghost use Rattle.pt_case.specs.Run.{Ran};
-ghost use Rattle.pt_case.specs.UnderWay.{ending_of};
-ghost use Rattle.tests_base.specs.Samples.{never_answer, always_answer, nested_answer, endless_answer, noted_answer};
+ghost use Rattle.std.specs.Prelude.{◌≡◌};
+ghost use Rattle.pt_plan.specs.Came.{Drew};
+ghost use Rattle.pt_plan.specs.Ended.{Settles};
+ghost use Rattle.pt_plan.specs.Says.{plan_says};
+ghost use Rattle.pt_plan.specs.Stop.{draw_halt};
+ghost use Rattle.tests_base.specs.Checks.{never_plan, always_answer, nested_plan, crowded_plan, noted_plan};
 
-use pt_case::{Case, Check, Ending, Origin, Stop};
-use pt_choice::{Kind, NoMemory};
+use pt_case::{Case, Check, Ending, MAX_SPANS, Origin};
+use pt_choice::NoMemory;
+use pt_plan::{DrawStop, ask_flag, ask_integer, ending_of, enter, leave, note};
 use pt_val::{Name, Val};
-
-fn flag() -> Kind
-    ensures { result ≡ Bool 8 }
-{
-    Kind::of_bool(8).unwrap()
-}
-
-fn digit() -> Kind
-    ensures { result ≡ Int (pos 0) (pos 9) }
-{
-    Kind::of_int(0, 9).unwrap()
-}
 
 /// Asks for a boolean and passes.
 #[derive(Drop)]
@@ -32,22 +21,22 @@ pub struct Never {
 impl Check for Never {
     ghost name = { λ check. check.name };
 
-    ghost step = { λ check choices said. said ≡ never_answer choices };
+    ghost step = { λ check. plan_says never_plan };
 
     fn name(&self) -> &Name {
         &self.name
     }
 
     fn run(&self, case: &mut Case) -> Result<Ending, NoMemory> {
-        Ending::of(draws_one(case))
+        ending_of(draws_one(case))
     }
 }
 
-fn draws_one(case: &mut Case) -> Result<Ending, Stop>
-    requires { IsNew case.old }
-    ensures { IfOk (ending_of result) (λ ending. Ran (λ choices said. said ≡ never_answer choices) case.old case.new ending) }
+fn draws_one(case: &mut Case) -> Result<Ending, DrawStop>
+    ensures drew { Drew draw_halt never_plan case.old case.new result }
+    ensures settles { Settles result }
 {
-    case.draw(&flag())?;
+    ask_flag(case, 8)?;
     Ok(Ending::Pass)
 }
 
@@ -80,61 +69,62 @@ pub struct Nested {
 impl Check for Nested {
     ghost name = { λ check. check.name };
 
-    ghost step = { λ check choices said. said ≡ nested_answer choices };
+    ghost step = { λ check. plan_says nested_plan };
 
     fn name(&self) -> &Name {
         &self.name
     }
 
     fn run(&self, case: &mut Case) -> Result<Ending, NoMemory> {
-        Ending::of(draws_nested(case))
+        ending_of(draws_nested(case))
     }
 }
 
-fn draws_nested(case: &mut Case) -> Result<Ending, Stop>
-    requires { IsNew case.old }
-    ensures { IfOk (ending_of result) (λ ending. Ran (λ choices said. said ≡ nested_answer choices) case.old case.new ending) }
+fn draws_nested(case: &mut Case) -> Result<Ending, DrawStop>
+    ensures drew { Drew draw_halt nested_plan case.old case.new result }
+    ensures settles { Settles result }
 {
-    case.enter(1)?;
-    case.draw(&flag())?;
-    case.enter(2)?;
-    case.draw(&digit())?;
-    case.enter(3)?;
-    case.draw(&flag())?;
-    case.leave();
-    case.leave();
-    case.leave();
+    enter(case, 1)?;
+    ask_flag(case, 8)?;
+    enter(case, 2)?;
+    ask_integer(case, 0, 9)?;
+    enter(case, 3)?;
+    ask_flag(case, 8)?;
+    leave(case);
+    leave(case);
+    leave(case);
     Ok(Ending::Pass)
 }
 
-/// Enters spans without end, and leaves each at once.
+/// Enters one span more than a case has room for, and leaves each at once.
 #[derive(Drop)]
-pub struct Endless {
+pub struct Crowded {
     pub name: Name,
 }
 
-impl Check for Endless {
+impl Check for Crowded {
     ghost name = { λ check. check.name };
 
-    ghost step = { λ check choices said. said ≡ endless_answer choices };
+    ghost step = { λ check. plan_says (crowded_plan 1025) };
 
     fn name(&self) -> &Name {
         &self.name
     }
 
     fn run(&self, case: &mut Case) -> Result<Ending, NoMemory> {
-        Ending::of(enters_spans(case))
+        ending_of(enters_spans(case))
     }
 }
 
-fn enters_spans(case: &mut Case) -> Result<Ending, Stop>
-    requires { IsNew case.old }
-    ensures { IfOk (ending_of result) (λ ending. Ran (λ choices said. said ≡ endless_answer choices) case.old case.new ending) }
+fn enters_spans(case: &mut Case) -> Result<Ending, DrawStop>
+    ensures drew { Drew draw_halt (crowded_plan 1025) case.old case.new result }
+    ensures settles { Settles result }
 {
-    loop {
-        case.enter(1)?;
-        case.leave();
+    for _turn in 0..MAX_SPANS + 1 {
+        enter(case, 1)?;
+        leave(case);
     }
+    Ok(Ending::Pass)
 }
 
 /// Notes its name with true, draws a boolean, and notes it with false.
@@ -146,23 +136,23 @@ pub struct Noted {
 impl Check for Noted {
     ghost name = { λ check. check.name };
 
-    ghost step = { λ check choices said. said ≡ noted_answer check.name choices };
+    ghost step = { λ check. plan_says (noted_plan check.name) };
 
     fn name(&self) -> &Name {
         &self.name
     }
 
     fn run(&self, case: &mut Case) -> Result<Ending, NoMemory> {
-        Ending::of(draws_between_notes(&self.name, case))
+        ending_of(draws_between_notes(&self.name, case))
     }
 }
 
-fn draws_between_notes(name: &Name, case: &mut Case) -> Result<Ending, Stop>
-    requires { IsNew case.old }
-    ensures { IfOk (ending_of result) (λ ending. Ran (λ choices said. said ≡ noted_answer name.now choices) case.old case.new ending) }
+fn draws_between_notes(name: &Name, case: &mut Case) -> Result<Ending, DrawStop>
+    ensures drew { Drew draw_halt (noted_plan name.now) case.old case.new result }
+    ensures settles { Settles result }
 {
-    case.note(name.copy()?, Val::Bool(true))?;
-    case.draw(&flag())?;
-    case.note(name.copy()?, Val::Bool(false))?;
+    note(case, name.copy()?, Val::Bool(true))?;
+    ask_flag(case, 8)?;
+    note(case, name.copy()?, Val::Bool(false))?;
     Ok(Ending::Pass)
 }

@@ -1,9 +1,11 @@
 //! Records of lists and of runs, and what a check asks for after them, worked by hand.
 
-use crate::checks::{Always, Endless, Nested, Never, Noted};
+use crate::checks::{Always, Crowded, Nested, Never, Noted};
 use crate::expect::expect;
+use crate::rising::Rising;
 use crate::sample::Sample::{self, Flag, Number};
 use crate::sample::choices_of;
+use crate::small::Small;
 use pt_case::{Check, Ending, Note, Origin, Record, Span, asks, fresh, replay};
 use pt_choice::{Choices, NoMemory, Shape};
 use pt_val::{Name, Val, same};
@@ -225,7 +227,7 @@ fn is_first(span: &Span) -> bool {
     (span.label, span.from, span.to, span.parent) == (1, 0, 0, None)
 }
 
-fn is_cut(alloc: Global, check: &Endless) -> Result<bool, NoMemory> {
+fn is_cut(alloc: Global, check: &Crowded) -> Result<bool, NoMemory> {
     let given = choices_of(alloc, &[Flag(true)])?;
     let rec = replay(alloc, check, &given)?;
     Ok(
@@ -236,15 +238,131 @@ fn is_cut(alloc: Global, check: &Endless) -> Result<bool, NoMemory> {
     )
 }
 
-fn asks_nothing(alloc: Global, check: &Endless) -> Result<bool, NoMemory> {
+fn asks_nothing(alloc: Global, check: &Crowded) -> Result<bool, NoMemory> {
     Ok(asks(alloc, check, &Choices::empty(alloc))?.is_none())
 }
 
 #[test]
 fn a_check_that_enters_a_span_too_many_is_cut(rt: HostRuntime) -> Result<(), Fail> {
-    let name = Name::of(rt.alloc(), "endless")?;
-    let check = Endless { name };
+    let name = Name::of(rt.alloc(), "crowded")?;
+    let check = Crowded { name };
     expect(&rt, 0, is_cut(rt.alloc(), &check));
     expect(&rt, 1, asks_nothing(rt.alloc(), &check));
+    Ok(())
+}
+
+/// The same of the check `Small`.
+const SMALL: [(&[Sample], Shown, Option<Shape>); 4] = [
+    (
+        &[],
+        Shown {
+            choices: &[],
+            spans: &[],
+            notes: &[],
+            ending: Ending::Overrun,
+        },
+        Some(DIGIT),
+    ),
+    (
+        &[Number(4)],
+        Shown {
+            choices: &[Number(4)],
+            spans: &[],
+            notes: &[],
+            ending: Ending::Pass,
+        },
+        None,
+    ),
+    (
+        &[Number(5)],
+        Shown {
+            choices: &[Number(5)],
+            spans: &[],
+            notes: &[],
+            ending: Ending::Fail(Origin::Point(1)),
+        },
+        None,
+    ),
+    (
+        &[Number(100)],
+        Shown {
+            choices: &[Number(0)],
+            spans: &[],
+            notes: &[],
+            ending: Ending::Pass,
+        },
+        None,
+    ),
+];
+
+#[test]
+fn a_small_number_passes(rt: HostRuntime) -> Result<(), Fail> {
+    let name = Name::of(rt.alloc(), "small")?;
+    let check = Small { name };
+    for (row, (given, shown, asked)) in SMALL.iter().enumerate() {
+        expect(&rt, row, leaves(rt.alloc(), &check, given, *shown, *asked));
+    }
+    Ok(())
+}
+
+/// The spans of two digits, which were both drawn.
+const BOTH: [(u32, u16, u16, Option<u16>); 3] = [
+    (1, 0, 2, None),
+    (2, 0, 1, Some(0)),
+    (2, 1, 2, Some(0)),
+];
+
+/// The same of the check `Rising`, which draws in nested spans: the list ends in the middle of its draws, and then it
+/// passes, rejects and fails.
+const RISING: [(&[Sample], Shown, Option<Shape>); 4] = [
+    (
+        &[Number(3)],
+        Shown {
+            choices: &[Number(3)],
+            spans: &[(1, 0, 1, None), (2, 0, 1, Some(0)), (2, 1, 1, Some(0))],
+            notes: &[],
+            ending: Ending::Overrun,
+        },
+        Some(DIGIT),
+    ),
+    (
+        &[Number(3), Number(8)],
+        Shown {
+            choices: &[Number(3), Number(8)],
+            spans: &BOTH,
+            notes: &[true],
+            ending: Ending::Pass,
+        },
+        None,
+    ),
+    (
+        &[Number(7), Number(3)],
+        Shown {
+            choices: &[Number(7), Number(3)],
+            spans: &BOTH,
+            notes: &[false],
+            ending: Ending::Reject,
+        },
+        None,
+    ),
+    (
+        &[Number(3), Number(9)],
+        Shown {
+            choices: &[Number(3), Number(9)],
+            spans: &BOTH,
+            notes: &[true],
+            ending: Ending::Fail(Origin::Point(2)),
+        },
+        None,
+    ),
+];
+
+#[test]
+fn draws_in_spans_end_in_each_way(rt: HostRuntime) -> Result<(), Fail> {
+    let name = Name::of(rt.alloc(), "rising")?;
+    let check = Rising { name };
+    for (row, (given, shown, asked)) in RISING.iter().enumerate() {
+        expect(&rt, row, leaves(rt.alloc(), &check, given, *shown, *asked));
+    }
     Ok(())
 }

@@ -1,31 +1,28 @@
-use Rattle.std.proofs.Common.{◌≡◌, ◌+◌, Err, rules, arith}
-use Rattle.std.proofs.lemmas.List.{length-replicate}
-use Rattle.tests_base.proofs.EndlessLemmas.{left_span, entered-open, spanned-more, spanned-longer, ran-endless}
+use Rattle.std.proofs.Common.{◌≡◌, ◌+◌, ◌-◌, ◌<◌, ℕ, suc, Err, ap, rules, arith}
+use Rattle.pt_case.specs.State.{State}
+use Rattle.pt_plan.specs.Stop.{draw_stop_of}
+use Rattle.pt_plan.specs.Plan.{Plan, Enters, Leaves}
+use Rattle.pt_case.specs.declared.ending.Ending.{Ending}
+use Rattle.pt_plan.proofs.DrewLemmas.{Leads, leads-is, leads-entered, leads-left, drew-entered, drew-ended}
+use Rattle.tests_base.specs.Checks.{crowded_plan}
 use Rattle.tests_base.proofs.checks.enters_spans.Goals as goal
 
-pub returns-in_err-enter : goal.returns-in_err-enter
-returns-in_err-enter c =
-    let so_far = c.loop-case.invariant in
-    let gave : c.from_residual.result ≡ Err c.in_err-enter.field-0.0 = search rules in
-    rw gave (ran-endless c.args.case.now c.loop-case.case so_far.0 c.enter.new.self c.in_err-enter.field-0.0 c.requires so_far.1 so_far.2
-    c.in_err-enter.ensures.overrun.0 c.in_err-enter.ensures.stopped)
+-- while turns are left, a span is next
+next-span : {plan : Plan Ending} {old now : State} (turns turn : ℕ) → turn < turns → Leads plan old (crowded_plan (turns - turn)) now →
+    Leads plan old (Enters 1 (Leaves (crowded_plan (turns - (turn + 1))))) now
+next-span turns turn left way =
+    let one : turns - turn ≡ suc (turns - (turn + 1)) = omega arith in leads-is way (ap crowded_plan one)
 
-pub leave-requires : goal.leave-requires
-leave-requires c =
-    let so_far = c.loop-case.invariant in
-    entered-open c.args.case.now.left so_far.0 c.loop-case.case c.enter.new.self so_far.2 c.in_ok-enter.ensures.entered
+pub returns-in_err-enter-clause-drew : goal.returns-in_err-enter-clause-drew
+returns-in_err-enter-clause-drew c =
+    let gave : c.from_residual.result ≡ Err (draw_stop_of c.in_err-enter.field-0.0) = search rules in
+    rw gave (drew-entered c.in_err-enter.ensures.drew (next-span 1025 c.loop-turn._turn (omega arith) c.loop-turn.invariant))
 
-pub loop-case-smaller : goal.loop-case-smaller
-loop-case-smaller c =
-    let so_far = c.loop-case.invariant in
-    let more = spanned-more c.args.case.now.left so_far.0 c.loop-case.case c.enter.new.self c.leave.new.self so_far.2 c.in_ok-enter.ensures.entered c.leave.ensures in
-    omega (arith, spanned-longer c.args.case.now.left so_far.0 c.loop-case.case c.leave.new.self so_far.2 more, c.in_ok-enter.ensures.entered.room)
+pub returns-clause-drew : goal.returns-clause-drew
+returns-clause-drew c =
+    let none : 1025 - c.loop-turn._turn ≡ 0 = omega arith in
+    drew-ended (leads-is c.loop-turn.invariant (ap crowded_plan none))
 
-pub loop-case-preserved : goal.loop-case-preserved
-loop-case-preserved c =
-    let so_far = c.loop-case.invariant in
-    let room = rw so_far.2 at c.in_ok-enter.ensures.entered.room in (
-      so_far.0 + 1,
-      omega (arith, room, length-replicate so_far.0 left_span),
-      spanned-more c.args.case.now.left so_far.0 c.loop-case.case c.enter.new.self c.leave.new.self so_far.2 c.in_ok-enter.ensures.entered c.leave.ensures,
-    )
+pub loop-turn-preserved : goal.loop-turn-preserved
+loop-turn-preserved c =
+    leads-left c.leave.ensures.left (leads-entered c.in_ok-enter.ensures.drew (next-span 1025 c.loop-turn._turn (omega arith) c.loop-turn.invariant))

@@ -1,10 +1,8 @@
-use Rattle.std.proofs.Common.{◌≡◌, ◌≤◌, ◌-◌, ℕ, length}
-use Rattle.tests_base.proofs.EndlessLemmas.{spanned}
+use Rattle.std.proofs.Common.{◌-◌}
+use Rattle.pt_plan.proofs.DrewLemmas.{Leads}
+use Rattle.tests_base.specs.Checks.{crowded_plan}
 use Rattle.tests_base.proofs.checks.enters_spans.Given as goal
 
--- so many spans were entered and left, and nothing else was done
-abbrev pub invariant-loop-case : goal.invariant-loop-case
-invariant-loop-case l = (count : ℕ) × (count ≤ 1024) × (l.case ≡ spanned l.initial.case.left count)
-
-abbrev pub decreases-loop-case : goal.decreases-loop-case
-decreases-loop-case l = 1024 - length l.case.regions
+-- as many spans are left to enter as turns
+abbrev pub invariant-loop-turn : goal.invariant-loop-turn
+invariant-loop-turn l = Leads (crowded_plan 1025) l.fn.case (crowded_plan (1025 - l._turn)) l.case
