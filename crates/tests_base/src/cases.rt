@@ -70,11 +70,13 @@ fn is_noted(note: &Note, name: &str) -> bool {
     note.name.as_slice() == name.as_bytes() && matches!(note.val, Val::Bool(true))
 }
 
-// The notes of a case that overran between the two.
+// The notes of a case that overran between the two, and none where it did not overrun.
 fn notes(alloc: Global) -> Result<Notes, NameStop> {
     let mut case = Case::replay(alloc, &Choices::empty(alloc))?;
     noted(alloc, &mut case, "before")?;
-    let _stopped = case.draw(&flag());
+    if case.draw(&flag()) != Err(Stop::Overrun) {
+        return Ok(Notes::empty(alloc));
+    }
     noted(alloc, &mut case, "after")?;
     Ok(case.finish(Ending::Pass).notes)
 }

@@ -45,7 +45,8 @@ fn joined(mut first: Seq<u8>, rest: Seq<u8>) -> Result<Seq<u8>, NoMemory>
 
 fn are_joined(alloc: Global) -> Result<bool, NoMemory> {
     let all = joined(numbers(alloc, &[1, 2])?, numbers(alloc, &[3])?)?;
-    Ok(all.len() == 3 && all.as_slice() == [1, 2, 3].as_slice())
+    let none: Seq<u8> = Seq::empty(all.allocator());
+    Ok(none.len() == 0 && all.len() == 3 && all.as_slice() == [1, 2, 3].as_slice())
 }
 
 #[test]

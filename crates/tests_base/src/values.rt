@@ -8,7 +8,7 @@ use pt_val::{Chars, Ty, Tys, Val, Vals, has_type, same, show, size};
 use std::alloc::Global;
 
 /// Values, of which no two are the same, with the text and the size of each.
-const VALUES: [(Plain, &str, u64); 27] = [
+const VALUES: [(Plain, &str, u64); 29] = [
     (Int(0), "0", 1),
     (Int(1), "1", 1),
     (Int(-1), "-1", 1),
@@ -35,6 +35,8 @@ const VALUES: [(Plain, &str, u64); 27] = [
     (List(&[Int(1), Int(2)]), "[1, 2]", 3),
     (List(&[Int(2), Int(1)]), "[2, 1]", 3),
     (List(&[Int(1), Int(1)]), "[1, 1]", 3),
+    (List(&[Int(1)]), "[1]", 2),
+    (List(&[List(&[List(&[Int(7)])])]), "[[[7]]]", 4),
     (Tuple(&[]), "()", 1),
     (Tuple(&[Int(-1), List(&[Int(2)])]), "(-1, [2])", 4),
     (Node(3, &[]), "leaf(3)", 1),
