@@ -1,3 +1,4 @@
+pub mod Faults
 pub mod Kind
 pub mod Limits
 pub mod Order

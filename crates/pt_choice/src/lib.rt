@@ -11,8 +11,7 @@ mod memory;
 mod octets;
 mod order;
 mod seq;
-#[cfg(test)]
-mod tests;
+mod sharing;
 
 pub use choice::Choice;
 pub use choices::Choices;
@@ -21,3 +20,4 @@ pub use memory::NoMemory;
 pub use octets::Octets;
 pub use order::{cmp_choice, orders_are_total, shortlex};
 pub use seq::Seq;
+pub use sharing::may_be_shared;

@@ -1,7 +1,7 @@
 -- What the calls of an object of files do.
 use Rattle.std.specs.Prelude.{◌≡◌, ℕ, ◌<◌, ◌≤◌, Bool, true, false, List, [], ◌++◌, length, take, drop, Option, Some, None, IsSome, IfSome, IsSomeAnd, is_some, Result, IsOk, IfOk, OnErr}
 use Rattle.pt_io.specs.declared.files.IoFailed.{IoFailed}
-use Rattle.pt_io.specs.Faults.{Rose}
+use Rattle.pt_choice.specs.Faults.{Rose}
 
 -- What an object of files shows: how many of its calls failed; the content of each name that is there, where it
 -- tells its files; what is left to read of the chosen file, where it tells that; and whether it never fails a read.

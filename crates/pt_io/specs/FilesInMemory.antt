@@ -2,7 +2,7 @@
 use Rattle.std.specs.Prelude.{ℕ, ◌==◌, List, [], length, Contains, Option, Some, find, slice_index_or, nat_eq}
 use Rattle.std.specs.Option.{option_map}
 use Rattle.std.specs.Cmp.Lexicographic.{pointwise}
-use Rattle.pt_io.specs.Faults.{next_count}
+use Rattle.pt_choice.specs.Faults.{next_count}
 use Rattle.pt_io.specs.Files.{Shown}
 
 -- the files by name, the calls that are to fail, how many calls there were, what is left of the chosen file, and

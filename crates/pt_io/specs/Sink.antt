@@ -2,7 +2,7 @@
 use Rattle.std.specs.Prelude.{◌≡◌, ℕ, ◌<◌, ◌≤◌, List, ◌++◌, length, take, Option, Result, IfOk, OnErr}
 use Rattle.std.specs.Option.{option_map}
 use Rattle.pt_io.specs.declared.files.IoFailed.{IoFailed}
-use Rattle.pt_io.specs.Faults.{Rose}
+use Rattle.pt_choice.specs.Faults.{Rose}
 
 -- what a sink shows: how many of its calls failed, and the bytes that it was given, where it tells them
 pub record Written : Type 0 where

@@ -1,7 +1,7 @@
 -- What contracts see of a sink in memory.
 use Rattle.std.specs.Prelude.{ℕ, List, Contains, Some}
 use Rattle.pt_io.specs.Sink.{Written}
-use Rattle.pt_io.specs.Faults.{next_count}
+use Rattle.pt_choice.specs.Faults.{next_count}
 
 -- what was written, the calls that are to fail, how many calls there were, how many failed, and how many found no memory
 pub record SinkInMemory : Type 0 where

@@ -1,6 +1,6 @@
 ghost use Rattle.std.specs.Prelude.{◌≡◌, ◌⊎◌, [], OnOk, OnErr};
 ghost use Rattle.pt_io.specs.Sink.{Wrote};
-ghost use Rattle.pt_io.specs.Faults.{Rose, next_count};
+ghost use Rattle.pt_choice.specs.Faults.{Rose, next_count};
 ghost use Rattle.pt_io.specs.SinkInMemory.{shown, FailsNext};
 
 use crate::{Calls, IoFailed, Sink};

@@ -1,5 +1,5 @@
 ghost use Rattle.std.specs.Prelude.{◌≡◌, ◌<◌, ◌≤◌, length, true, IfOk, IsErrOf};
-ghost use Rattle.pt_io.specs.Faults.{Rose};
+ghost use Rattle.pt_choice.specs.Faults.{Rose};
 ghost use Rattle.pt_io.specs.Files.{HasBytes, HasNone};
 ghost use Rattle.pt_io.specs.declared.reading.ReadStop.TheVariants.{NoMemory as OutOfMemory};
 

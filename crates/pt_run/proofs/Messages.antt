@@ -5,7 +5,7 @@ use Rattle.std.specs.Option.{IfSome, IsSomeAnd}
 use Rattle.pt_choice.specs.declared.choice.Choice.{Choice}
 use Rattle.pt_case.specs.Ending.{is_failure}
 use Rattle.pt_case.specs.Step.{Answer}
-use Rattle.pt_io.specs.Faults.{Rose}
+use Rattle.pt_choice.specs.Faults.{Rose}
 use Rattle.pt_io.specs.Files.{Shown, HasBytes}
 use Rattle.pt_io.specs.Sink.{Written}
 use Rattle.pt_io.specs.declared.reading.TheConstants.{MAX_BYTES}

@@ -4,7 +4,7 @@ use Rattle.std.specs.declared.alloc.Global.{Global}
 use Rattle.pt_choice.specs.declared.choice.Choice.{Choice}
 use Rattle.pt_case.specs.Step.{Answer}
 use Rattle.pt_case.specs.Run.{IsRecord}
-use Rattle.pt_io.specs.Faults.{Rose}
+use Rattle.pt_choice.specs.Faults.{Rose}
 use Rattle.pt_io.specs.Files.{Shown, HasBytes, HasNone}
 use Rattle.pt_io.specs.declared.reading.TheConstants.{MAX_BYTES}
 use Rattle.pt_run.specs.declared.message.Message.{Message}

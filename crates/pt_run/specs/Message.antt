@@ -2,7 +2,7 @@
 use Rattle.std.specs.Prelude.{◌≡◌, ◌⊎◌, ℕ, List, [], ◌∷◌, Option, Some, None, codes, if◌then◌else◌}
 use Rattle.pt_case.specs.Ending.{is_failure}
 use Rattle.pt_case.specs.declared.record.Record.{Record}
-use Rattle.pt_io.specs.Faults.{Rose}
+use Rattle.pt_choice.specs.Faults.{Rose}
 use Rattle.pt_io.specs.Sink.{Written, Appends, AppendsPart}
 use Rattle.pt_run.specs.declared.finding.Finding.{Finding}
 use Rattle.pt_run.specs.declared.finish.Finish.{Finish}

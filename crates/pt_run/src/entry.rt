@@ -1,5 +1,5 @@
 ghost use Rattle.std.specs.Prelude.{◌≡◌, ◌<◌, ◌≤◌, IfOk, OnErr};
-ghost use Rattle.pt_io.specs.Faults.{Rose};
+ghost use Rattle.pt_choice.specs.Faults.{Rose};
 ghost use Rattle.pt_run.specs.Command.{asked_by};
 ghost use Rattle.pt_run.specs.Due.{IsAnswer, IsDue, IsRunnable, SaysOf};
 ghost use Rattle.pt_run.specs.Message.{Tells};

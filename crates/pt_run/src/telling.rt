@@ -1,5 +1,5 @@
 ghost use Rattle.std.specs.Prelude.{◌≡◌, ◌++◌, IfOk, OnOk, OnErr};
-ghost use Rattle.pt_io.specs.Faults.{Rose};
+ghost use Rattle.pt_choice.specs.Faults.{Rose};
 ghost use Rattle.pt_io.specs.Sink.{Appends, AppendsPart};
 ghost use Rattle.pt_run.specs.Message.{Tells};
 
