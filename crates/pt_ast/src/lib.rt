@@ -1,12 +1,17 @@
 //! What the text of a suite stands for, and what it is for a suite to be well typed.
 #![tactic(auto)]
 
+mod binding;
+mod building;
 mod expr;
 mod ident;
 mod stmt;
 mod strat;
 mod suite;
 
+use pt_choice::{may_be_shared, Seq};
+
+pub use binding::Binding;
 pub use expr::{Binder, CompareOp, Expr, ExprKind, Exprs, Func, Op, PostTail, PostTails, Tail, Tails};
 pub use ident::Ident;
 pub use stmt::{Stmt, StmtKind, Stmts};
@@ -17,24 +22,9 @@ pub use suite::{
 };
 
 // The trees pass between threads.
-fn shared<T: Send + Sync>() {}
-
-fn idents_are_shared() {
-    shared::<Ident>();
-}
-
-fn exprs_are_shared() {
-    shared::<Expr>();
-}
-
-fn strats_are_shared() {
-    shared::<Strat>();
-}
-
-fn stmts_are_shared() {
-    shared::<Stmt>();
-}
-
-fn suites_are_shared() {
-    shared::<Suite>();
+fn trees_are_shared() {
+    may_be_shared::<Exprs>();
+    may_be_shared::<Strats>();
+    may_be_shared::<Stmts>();
+    may_be_shared::<RuleDecls>();
 }

@@ -1,0 +1,3 @@
+pub mod Shapes
+pub mod StratShapes
+pub mod TypeShapes

@@ -1,0 +1,10 @@
+pub mod Types
+pub mod Trees
+pub mod Plain
+pub mod Levels
+pub mod Bounds
+pub mod Numbers
+pub mod Names
+pub mod Typing
+pub mod Suites
+pub mod Values
