@@ -1,3 +1,5 @@
 pub mod Shapes
 pub mod StratShapes
 pub mod TypeShapes
+pub mod TreeValues
+pub mod ValueLaws

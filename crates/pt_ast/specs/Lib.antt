@@ -8,3 +8,4 @@ pub mod Names
 pub mod Typing
 pub mod Suites
 pub mod Values
+pub mod Laws

@@ -9,34 +9,34 @@ use Rattle.pt_ast.specs.Bounds.{gives}
 use Rattle.pt_ast.specs.Names.{Scope, type_in, IsFree, with_name, AreDistinct}
 use Rattle.pt_ast.specs.Typing.{HasType, Draws}
 
--- what a rule's statements reach of their machine: its states, its bundles by the types of their entries, and the type of the bundle that the rule gives into
-pub record Reach : Type 0 where
+-- what a rule's statements context of their machine: its states, its bundles by the types of their entries, and the type of the bundle that the rule gives into
+pub record Context : Type 0 where
   pub states : Scope
   pub bundles : Scope
   pub target : Option TypeTree
 
--- a property's statements reach nothing of the kind
-abbrev pub no_reach : Reach
-no_reach = record { states = []; bundles = []; target = None }
+-- a property's statements context nothing of the kind
+abbrev pub no_context : Context
+no_context = record { states = []; bundles = []; target = None }
 
 -- the statement is well typed where the first names are in scope, and the second are behind it
-abbrev pub Binds : Reach → Scope → StmtTree → Scope → Type 0
-Binds reach scope (Draw_of at given strat) after =
+abbrev pub Binds : Context → Scope → StmtTree → Scope → Type 0
+Binds context scope (Draw_of at given strat) after =
     (type : TypeTree) × IsFree scope given × Draws scope None strat type × (after ≡ with_name scope given type)
-Binds reach scope (Let_of at given value) after =
+Binds context scope (Let_of at given value) after =
     (type : TypeTree) × IsFree scope given × HasType scope value type × (after ≡ with_name scope given type)
-Binds reach scope (Assume_of at cond) after = HasType scope cond Bool_type × (after ≡ scope)
-Binds reach scope (Assert_of at cond) after = HasType scope cond Bool_type × (after ≡ scope)
-Binds reach scope (Pick_of at num given bundle) after =
-    (type : TypeTree) × IsFree scope given × (type_in bundle.name reach.bundles ≡ Some type) × (after ≡ with_name scope given type)
-Binds reach scope (Set_of at state value) after =
-    (type : TypeTree) × (type_in state.name reach.states ≡ Some type) × HasType scope value type × (after ≡ scope)
-Binds reach scope (Give_of at value) after = (type : TypeTree) × (reach.target ≡ Some type) × HasType scope value type × (after ≡ scope)
+Binds context scope (Assume_of at cond) after = HasType scope cond Bool_type × (after ≡ scope)
+Binds context scope (Assert_of at cond) after = HasType scope cond Bool_type × (after ≡ scope)
+Binds context scope (Pick_of at num given bundle) after =
+    (type : TypeTree) × IsFree scope given × (type_in bundle.name context.bundles ≡ Some type) × (after ≡ with_name scope given type)
+Binds context scope (Set_of at state value) after =
+    (type : TypeTree) × (type_in state.name context.states ≡ Some type) × HasType scope value type × (after ≡ scope)
+Binds context scope (Give_of at value) after = (type : TypeTree) × (context.target ≡ Some type) × HasType scope value type × (after ≡ scope)
 
 -- so are the statements, one after another
-abbrev pub BindAll : Reach → Scope → List StmtTree → Scope → Type 0
-BindAll reach scope [] after = after ≡ scope
-BindAll reach scope (first ∷ others) after = (next : Scope) × Binds reach scope first next × BindAll reach next others after
+abbrev pub BindAll : Context → Scope → List StmtTree → Scope → Type 0
+BindAll context scope [] after = after ≡ scope
+BindAll context scope (first ∷ others) after = (next : Scope) × Binds context scope first next × BindAll context next others after
 
 -- the states are well typed one after another, each where the names before it are in scope
 abbrev pub Declare : Scope → List StateTree → Scope → Type 0
@@ -73,7 +73,7 @@ pub record IsTypedMachine (machine : MachineTree) : Type 0 where
 -- what an item tests is well typed, where these checks are handed in: one of them, a property or a machine
 abbrev pub IsTypedBody : List (List ℕ) → Ident → BodyTree → Type 0
 IsTypedBody known name Check_of = Contains known name.name
-IsTypedBody known name (Property_of stmts) = (after : Scope) × BindAll no_reach [] stmts after
+IsTypedBody known name (Property_of stmts) = (after : Scope) × BindAll no_context [] stmts after
 IsTypedBody known name (Machine_of machine) = IsTypedMachine machine
 
 abbrev pub IsTypedItem : List (List ℕ) → ItemTree → Type 0

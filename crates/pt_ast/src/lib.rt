@@ -5,6 +5,7 @@ mod binding;
 mod building;
 mod expr;
 mod ident;
+mod laws;
 mod stmt;
 mod strat;
 mod suite;
@@ -14,6 +15,7 @@ use pt_choice::{may_be_shared, Seq};
 pub use binding::Binding;
 pub use expr::{Binder, CompareOp, Expr, ExprKind, Exprs, Func, Op, PostTail, PostTails, Tail, Tails};
 pub use ident::Ident;
+pub use laws::values_have_types;
 pub use stmt::{Stmt, StmtKind, Stmts};
 pub use strat::{Alphabet, Strat, StratKind, Strats};
 pub use suite::{
