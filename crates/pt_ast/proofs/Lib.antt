@@ -3,3 +3,5 @@ pub mod StratShapes
 pub mod TypeShapes
 pub mod TreeValues
 pub mod ValueLaws
+pub mod OneType
+pub mod NumberLaws

@@ -7,5 +7,6 @@ pub mod Numbers
 pub mod Names
 pub mod Typing
 pub mod Suites
+pub mod Sound
 pub mod Values
 pub mod Laws

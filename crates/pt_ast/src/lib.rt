@@ -9,13 +9,14 @@ mod laws;
 mod stmt;
 mod strat;
 mod suite;
+mod typed;
 
 use pt_choice::{may_be_shared, Seq};
 
 pub use binding::Binding;
 pub use expr::{Binder, CompareOp, Expr, ExprKind, Exprs, Func, Op, PostTail, PostTails, Tail, Tails};
 pub use ident::Ident;
-pub use laws::values_have_types;
+pub use laws::{exprs_have_one_type, sound_suites_have_sound_items, states_leave_one_scope, stmts_leave_one_scope, strats_draw_one_type, values_have_types};
 pub use stmt::{Stmt, StmtKind, Stmts};
 pub use strat::{Alphabet, Strat, StratKind, Strats};
 pub use suite::{
