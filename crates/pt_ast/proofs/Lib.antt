@@ -5,3 +5,4 @@ pub mod TreeValues
 pub mod ValueLaws
 pub mod OneType
 pub mod NumberLaws
+pub mod Shared

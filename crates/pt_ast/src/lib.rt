@@ -6,12 +6,11 @@ mod building;
 mod expr;
 mod ident;
 mod laws;
+mod sharing;
 mod stmt;
 mod strat;
 mod suite;
 mod typed;
-
-use pt_choice::{may_be_shared, Seq};
 
 pub use binding::Binding;
 pub use expr::{Binder, CompareOp, Expr, ExprKind, Exprs, Func, Op, PostTail, PostTails, Tail, Tails};
@@ -23,11 +22,4 @@ pub use suite::{
     Body, BundleDecl, BundleDecls, InvariantDecl, InvariantDecls, Item, Items, Machine, RuleDecl,
     RuleDecls, Settings, StateDecl, StateDecls, Suite,
 };
-
-// The trees pass between threads.
-fn trees_are_shared() {
-    may_be_shared::<Exprs>();
-    may_be_shared::<Strats>();
-    may_be_shared::<Stmts>();
-    may_be_shared::<RuleDecls>();
-}
+pub use typed::Typed;
