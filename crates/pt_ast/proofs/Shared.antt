@@ -58,35 +58,23 @@ rule_send = search (parts_cross, stmt_send) depth 100 fits 20000
 pub rule_sync : IsSync rule.the_row
 rule_sync = search (parts_cross, stmt_sync) depth 100 fits 20000
 
-pub machine_send : IsSend machine.the_row
-machine_send = search (parts_cross, state_send, bundle_send, invariant_send, rule_send) depth 100 fits 20000
-
-pub machine_sync : IsSync machine.the_row
-machine_sync = search (parts_cross, state_sync, bundle_sync, invariant_sync, rule_sync) depth 100 fits 20000
-
 pub machine_field_send : IsSend (machine.the_field).row
 machine_field_send = search (parts_cross, state_send, bundle_send, invariant_send, rule_send) depth 100 fits 20000
 
 pub machine_field_sync : IsSync (machine.the_field).row
 machine_field_sync = search (parts_cross, state_sync, bundle_sync, invariant_sync, rule_sync) depth 100 fits 20000
 
-pub body_send : IsSend body.the_row
-body_send = search (parts_cross, stmt_send, machine_send, machine_field_send) depth 100 fits 20000
-
-pub body_sync : IsSync body.the_row
-body_sync = search (parts_cross, stmt_sync, machine_sync, machine_field_sync) depth 100 fits 20000
-
 pub body_field_send : IsSend (body.the_field).row
-body_field_send = search (parts_cross, stmt_send, machine_send, machine_field_send) depth 100 fits 20000
+body_field_send = search (parts_cross, stmt_send, machine_field_send) depth 100 fits 20000
 
 pub body_field_sync : IsSync (body.the_field).row
-body_field_sync = search (parts_cross, stmt_sync, machine_sync, machine_field_sync) depth 100 fits 20000
+body_field_sync = search (parts_cross, stmt_sync, machine_field_sync) depth 100 fits 20000
 
 pub item_send : IsSend item.the_row
-item_send = search (parts_cross, settings.the_field_send, body_field_send, body_send) depth 100 fits 20000
+item_send = search (parts_cross, settings.the_field_send, body_field_send) depth 100 fits 20000
 
 pub item_sync : IsSync item.the_row
-item_sync = search (parts_cross, settings.the_field_sync, body_field_sync, body_sync) depth 100 fits 20000
+item_sync = search (parts_cross, settings.the_field_sync, body_field_sync) depth 100 fits 20000
 
 pub suite_send : IsSend suite.the_row
 suite_send = search (parts_cross, item_send) depth 100 fits 20000
@@ -101,5 +89,5 @@ pub suite_field_sync : IsSync (suite.the_field).row
 suite_field_sync = search (parts_cross, item_sync) depth 100 fits 20000
 
 -- what a crate above lists in a search
-pub ruleset trees_cross = (parts_cross, stmt_send, stmt_sync, rule_send, rule_sync, machine_send, machine_sync, body_send, body_sync, item_send, item_sync,
+pub ruleset trees_cross = (parts_cross, stmt_send, stmt_sync, rule_send, rule_sync, item_send, item_sync,
     suite_send, suite_sync, suite_field_send, suite_field_sync)
