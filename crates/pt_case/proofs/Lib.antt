@@ -4,4 +4,5 @@ pub mod RegionLemmas
 pub mod UnderWayLemmas
 pub mod PathLemmas
 pub mod RecordLemmas
-mod EndlessLemmas
+pub mod RunsLemmas
+pub mod BetterLemmas

@@ -91,11 +91,13 @@ impl Case {
     }
 
     /// Asks for a choice of this kind. In a replay the answer is the next member of the list, made to fit. A boolean
-    /// and an integer take no memory.
+    /// and an integer are never refused for want of memory. Where another choice is, what was made so far stays, and
+    /// nothing is said of what is left of the source.
     pub fn draw(&mut self, kind: &Kind) -> Result<Choice, Stop>
         ensures answered { IfOk result (λ choice. Answered self.old kind.now choice self.new) }
         ensures overrun { IsErrOf result Stop.Overrun ↔ IsOver self.old }
         ensures stopped { IsErrOf result Stop.Overrun → self.new ≡ stopped_at self.old (Refused.Question kind.now) }
+        ensures kept { IsErrOf result Stop.NoMemory → self.new ≡ record self.old { left = self.new.left } }
         ensures small { AsksSmall kind.now → result ≢ Err Stop.NoMemory }
     {
         if self.refused.is_some() || self.choices.len() == MAX_CHOICES {
@@ -112,7 +114,7 @@ impl Case {
         }
     }
 
-    /// Enters a span of this label, below the innermost open one. It takes no memory.
+    /// Enters a span of this label, below the innermost open one. It is never refused for want of memory.
     pub fn enter(&mut self, label: u32) -> Result<(), Stop>
         ensures entered { OnOk result (Entered self.old label self.new) }
         ensures overrun { IsErrOf result Stop.Overrun ↔ IsFilled self.old }
@@ -133,7 +135,7 @@ impl Case {
         Ok(())
     }
 
-    /// Leaves the innermost open span, which ends after the last choice. It takes no memory.
+    /// Leaves the innermost open span, which ends after the last choice.
     pub fn leave(&mut self)
         requires { IsSome (innermost self.old.regions) }
         ensures { self.new ≡ after_leave self.old }
@@ -177,8 +179,7 @@ impl Case {
         Stop::Overrun
     }
 
-    /// The record of the case, which ended so. Spans that are still open end after the last choice. It takes no
-    /// memory.
+    /// The record of the case, which ended so. Spans that are still open end after the last choice.
     pub fn finish(self, ending: Ending) -> Record
         ensures choices { result.choices ≡ self.choices }
         ensures spans { result.spans ≡ spans_at (length self.choices) self.regions }

@@ -4,12 +4,32 @@
 #![tactic(auto)]
 
 #[cfg(test)]
+mod cases;
+#[cfg(test)]
+mod checks;
+#[cfg(test)]
+mod expect;
+#[cfg(test)]
+mod keys;
+#[cfg(test)]
 mod kinds;
 #[cfg(test)]
 mod lists;
+#[cfg(test)]
+mod names;
 #[cfg(test)]
 mod orders;
 #[cfg(test)]
 mod outside;
 #[cfg(test)]
+mod plain;
+#[cfg(test)]
+mod records;
+#[cfg(test)]
 mod sample;
+#[cfg(test)]
+mod spellings;
+#[cfg(test)]
+mod supplies;
+#[cfg(test)]
+mod values;
