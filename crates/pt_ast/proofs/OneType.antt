@@ -1,13 +1,13 @@
 -- An expression has one type at most, and so have a strategy and what statements leave.
-use Rattle.std.proofs.Common.{◌≡◌, ℕ, ℤ, pos, negsuc, Option, Some, None, List, [], ◌∷◌, refl, sym, ◌∙◌, ap, subst}
+use Rattle.std.proofs.Common.{◌≡◌, ℤ, pos, negsuc, Option, Some, None, List, [], ◌∷◌, refl, sym, ◌∙◌, ap, subst}
 use Rattle.pt_ast.specs.declared.expr.Binder.{Binder}
 use Rattle.pt_ast.specs.declared.expr.Binder.TheVariants.{All, Any, Each}
 use Rattle.pt_ast.specs.declared.expr.Func.{Func}
 use Rattle.pt_ast.specs.declared.expr.Func.TheVariants.{Len, Has, Sum, Cat, Rev, Leaf, Node, Label, Kids, Labels}
-use Rattle.pt_ast.specs.Types.{TypeTree, Int_type, Bool_type, Text_type, Bytes_type, Tree_type, List_type, Tuple_type, TypeTrees, no_type, more_type, types_in}
-use Rattle.pt_ast.specs.Trees.{ExprTree, Num, Text_of, Bytes_of, Flag, Var, If_of, Or_of, And_of, Not_of, Compare_of, Sum_of, Prod_of, Neg_of, Post_of, Call_of, Bind_of, Bracket_of, Tuple_of, List_of, ExprTrees, no_expr, more_expr, PostTree, index_of, part_of, PostTrees, no_post, more_post, StratTree, Ints_of, Bools_of, Texts_of, Blobs_of, Sampled_of, Lists_of, Tuples_of, OneOf_of, Map_of, Filter_of, FlatMap_of, Recursive_of, Self_of, StratTrees, no_strat, more_strat, StmtTree, Draw_of, Let_of, Assume_of, Assert_of, Pick_of, Set_of, Give_of, StateTree}
+use Rattle.pt_ast.specs.Types.{TypeTree, Bytes_type, List_type, Tuple_type, TypeTrees, no_type, more_type, types_in}
+use Rattle.pt_ast.specs.Trees.{ExprTree, Num, Text_of, Bytes_of, Flag, Var, If_of, Or_of, And_of, Not_of, Compare_of, Sum_of, Prod_of, Neg_of, Post_of, Call_of, Bind_of, Bracket_of, Tuple_of, List_of, ExprTrees, no_expr, more_expr, index_of, part_of, PostTrees, no_post, more_post, StratTree, Ints_of, Bools_of, Texts_of, Blobs_of, Sampled_of, Lists_of, Tuples_of, OneOf_of, Map_of, Filter_of, FlatMap_of, Recursive_of, Self_of, StratTrees, no_strat, more_strat, StmtTree, Draw_of, Let_of, Assume_of, Assert_of, Pick_of, Set_of, Give_of, StateTree}
 use Rattle.pt_ast.specs.Names.{Scope, type_in, with_name}
-use Rattle.pt_ast.specs.Typing.{HasMember, part_type, HasPart, Takes, Yields, HasType, HaveType, HaveTypes, Reaches, Draws, AllDraw, DrawEach}
+use Rattle.pt_ast.specs.Typing.{HasMember, part_type, HasPart, Takes, Yields, HasType, HaveTypes, Reaches, Draws, DrawEach}
 use Rattle.pt_ast.specs.Suites.{Context, Binds, BindAll, Declare}
 
 -- two that are each this one
@@ -69,7 +69,7 @@ mutual
   one-type scope (Bind_of at binder given list body) type other left right =
       let members : right.0 ≡ left.0 = member-one right.0 left.0 (one-type scope list (List_type right.0) (List_type left.0) right.3 left.3) in
       let items : right.1 ≡ left.1 = one-type (with_name scope given left.0) body right.1 left.1
-          (subst (λ member. HasType (with_name scope given member) body right.1) members right.4) left.4 in
+      (subst (λ member. HasType (with_name scope given member) body right.1) members right.4) left.4 in
       yield-one binder left.1 type other left.5 (subst (λ item. Yields binder item other) items right.5)
   one-type scope (Bracket_of at part) type other left right = one-type scope part type other left right
   one-type scope (Tuple_of at parts) type other left right = left.2 ∙ ap Tuple_type (one-types scope parts left.0 right.0 left.1 right.1) ∙ sym right.2
@@ -90,12 +90,12 @@ mutual
   one-end scope no_post from type other left right = same left right
   one-end scope (more_post (index_of at index) posts) from type other left right =
       one-end scope posts left.0 type other left.3
-          (subst (λ member. Reaches scope member posts other) (index-one from right.0 left.0 right.1 left.1) right.3)
+      (subst (λ member. Reaches scope member posts other) (index-one from right.0 left.0 right.1 left.1) right.3)
   one-end scope (more_post (part_of at part) posts) from type other left right =
       let tuples : right.0 ≡ left.0 = let both : Tuple_type right.0 ≡ Tuple_type left.0 = sym right.2 ∙ left.2 in cc in
       one-end scope posts left.1 type other left.4
-          (subst (λ member. Reaches scope member posts other)
-              (part-one part left.0 right.1 left.1 (subst (λ types. HasPart part types right.1) tuples right.3) left.3) right.4)
+      (subst (λ member. Reaches scope member posts other)
+      (part-one part left.0 right.1 left.1 (subst (λ types. HasPart part types right.1) tuples right.3) left.3) right.4)
 
 mutual
   pub one-drawn : (scope : Scope) (self : Option TypeTree) (tree : StratTree) (type other : TypeTree) → Draws scope self tree type → Draws scope self tree other → type ≡ other
@@ -152,10 +152,10 @@ pub one-scope : (context : Context) (scope : Scope) (stmts : List StmtTree) (aft
 one-scope context scope [] after other left right = same left right
 one-scope context scope (first ∷ others) after other left right =
     one-scope context left.0 others after other left.2
-        (subst (λ next. BindAll context next others other) (one-after context scope first right.0 left.0 right.1 left.1) right.2)
+    (subst (λ next. BindAll context next others other) (one-after context scope first right.0 left.0 right.1 left.1) right.2)
 
 pub one-declared : (scope : Scope) (states : List StateTree) (after other : Scope) → Declare scope states after → Declare scope states other → after ≡ other
 one-declared scope [] after other left right = same left right
 one-declared scope (first ∷ others) after other left right =
     one-declared (with_name scope first.name left.0) others after other left.3
-        (subst (λ type. Declare (with_name scope first.name type) others other) (one-type scope first.init right.0 left.0 right.2 left.2) right.3)
+    (subst (λ type. Declare (with_name scope first.name type) others other) (one-type scope first.init right.0 left.0 right.2 left.2) right.3)

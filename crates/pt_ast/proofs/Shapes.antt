@@ -1,5 +1,5 @@
 -- The plain tree of each shape of expression.
-use Rattle.std.proofs.Common.{◌≡◌, ℕ, ℤ, Bool, List, map, refl, sym, ◌∙◌, ap}
+use Rattle.std.proofs.Common.{◌≡◌, ℕ, ℤ, Bool, List, refl, sym, ◌∙◌, ap}
 use Rattle.std.specs.Prelude.{Box}
 use Rattle.std.specs.declared.alloc.Global.{Global}
 use Rattle.pt_val.specs.declared.place.Place.{Place}

@@ -19,8 +19,22 @@ use Rattle.pt_ast.specs.contracts.suite.RuleDecl as rule
 use Rattle.pt_ast.specs.contracts.suite.StateDecl as state
 use Rattle.pt_ast.specs.contracts.suite.Suite as suite
 
-pub ruleset parts_cross = (crosses, sendable, seq.the_send, seq.the_sync, place.the_field_send, place.the_field_sync, ident.the_field_send, ident.the_field_sync,
-    send-Expr, sync-Expr, send-ExprKind, sync-ExprKind, send-StratKind, sync-StratKind)
+pub ruleset parts_cross = (
+  crosses,
+  sendable,
+  seq.the_send,
+  seq.the_sync,
+  place.the_field_send,
+  place.the_field_sync,
+  ident.the_field_send,
+  ident.the_field_sync,
+  send-Expr,
+  sync-Expr,
+  send-ExprKind,
+  sync-ExprKind,
+  send-StratKind,
+  sync-StratKind,
+)
 
 pub kind_field_send : IsSend (kind.the_field).row
 kind_field_send = search (parts_cross) depth 100 fits 20000
@@ -89,5 +103,16 @@ pub suite_field_sync : IsSync (suite.the_field).row
 suite_field_sync = search (parts_cross, item_sync) depth 100 fits 20000
 
 -- what a crate above lists in a search
-pub ruleset trees_cross = (parts_cross, stmt_send, stmt_sync, rule_send, rule_sync, item_send, item_sync,
-    suite_send, suite_sync, suite_field_send, suite_field_sync)
+pub ruleset trees_cross = (
+  parts_cross,
+  stmt_send,
+  stmt_sync,
+  rule_send,
+  rule_sync,
+  item_send,
+  item_sync,
+  suite_send,
+  suite_sync,
+  suite_field_send,
+  suite_field_sync,
+)

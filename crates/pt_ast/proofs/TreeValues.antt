@@ -2,8 +2,7 @@
 use Rattle.std.specs.List.{AllByRecursion}
 use Rattle.std.proofs.Common.{List, [], ◌∷◌}
 use Rattle.pt_val.specs.declared.val.Val.{Val}
-use Rattle.pt_ast.specs.Types.{Tree_type}
-use Rattle.pt_ast.specs.Values.{IsTree, AreTrees, no_tree, more_tree, IsOf}
+use Rattle.pt_ast.specs.Values.{IsTree, AreTrees, no_tree, more_tree}
 
 -- a list of trees is one whose members are
 pub are_trees : (values : List Val) → AllByRecursion IsTree values → AreTrees values

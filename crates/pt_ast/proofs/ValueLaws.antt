@@ -1,14 +1,13 @@
 -- A value is of a type exactly where `has_type` says so.
-use Rattle.std.proofs.Common.{◌≡◌, ℕ, ℤ, Bool, true, false, ◌&&◌, List, [], ◌∷◌, map, refl, sym, ◌∙◌, ap, subst}
-use Rattle.std.specs.Prelude.{◌↔◌, IsTrue, Box}
+use Rattle.std.proofs.Common.{◌≡◌, ℤ, Bool, true, false, ◌&&◌, List, [], ◌∷◌, map, refl, sym, ◌∙◌, ap, subst}
+use Rattle.std.specs.Prelude.{◌↔◌, IsTrue}
 use Rattle.std.specs.List.{AllByRecursion, list_all}
-use Rattle.std.specs.declared.alloc.Global.{Global}
 use Rattle.pt_val.specs.declared.val.Val.{Val, map-Val}
 use Rattle.pt_val.specs.declared.val.Val.TheVariants as val
 use Rattle.pt_val.specs.declared.val.Val.TheOpen.{Val-F}
 use Rattle.pt_val.specs.declared.val.Val.TheOpen as shape
 use Rattle.pt_val.specs.declared.val.Val.TheViews.{out-Val, roll-Val, out-roll-Val, roll-out-Val}
-use Rattle.pt_val.specs.declared.val.Val.TheFolds.{fold_out-Val, fold-roll-Val, ind-Val}
+use Rattle.pt_val.specs.declared.val.Val.TheFolds.{fold_out-Val, ind-Val}
 use Rattle.pt_val.specs.declared.ty.Ty.{Ty, map-Ty}
 use Rattle.pt_val.specs.declared.ty.Ty.TheOpen.{Ty-F}
 use Rattle.pt_val.specs.declared.ty.Ty.TheOpen as ty
@@ -16,7 +15,7 @@ use Rattle.pt_val.specs.declared.ty.Ty.TheVariants as type
 use Rattle.pt_val.specs.declared.ty.Ty.TheFolds.{fold_out-Ty}
 use Rattle.pt_val.specs.declared.ty.Ty.TheViews.{out-Ty, out-roll-Ty}
 use Rattle.pt_val.specs.Typing.{has_type, fits, are_of}
-use Rattle.pt_ast.specs.Types.{TypeTree, Int_type, Bool_type, Text_type, Bytes_type, Tree_type, List_type, Tuple_type, TypeTrees, no_type, more_type, types_of}
+use Rattle.pt_ast.specs.Types.{TypeTree, Int_type, Bool_type, Text_type, Bytes_type, Tree_type, List_type, Tuple_type, TypeTrees, no_type, more_type}
 use Rattle.pt_ast.specs.Plain.{type_step, plain_type, plain_types}
 use Rattle.pt_ast.specs.Values.{IsTree, AreTrees, no_tree, more_tree, a_tree, IsOf, AreOf}
 
@@ -163,7 +162,7 @@ at-roll v = test-is (roll-Val v) type.Tree ∙ ap (λ t. tested t (out-Val (roll
 tree-in : (value : Val) → IsTrue (has_type value type.Tree) → IsTree value
 tree-in = ind-Val (λ v. IsTrue (has_type v type.Tree) → IsTree v) (λ x y is test.
     subst (λ x. IsTrue (tested ty.Tree x) → IsTree (roll-Val x)) is
-        (λ held. closed Tree_type _ (tree-shaped (λ e. e.0) (λ e. e.1) y held)) (sym (at-roll x) ∙ test))
+    (λ held. closed Tree_type _ (tree-shaped (λ e. e.0) (λ e. e.1) y held)) (sym (at-roll x) ∙ test))
 
 mutual
   tree-passes : (value : Val) → IsTree value → IsTrue (has_type value type.Tree)
@@ -174,14 +173,15 @@ mutual
   children-pass [] no_tree = refl
   children-pass (first ∷ others) (more_tree _ _ one rest) =
       (both (has_type first type.Tree) (list_all (λ is_of. is_of type.Tree) (map has_type others)) _ _ (λ is. is, λ is. is) (λ is. is, λ is. is)).1
-          (tree-passes first one, children-pass others rest)
+      (tree-passes first one, children-pass others rest)
 
 -- from the shapes to the values
 through : (type : TypeTree) (given : Ty) (value : Val) → (IsTrue (tested (out-Ty given) (out-Val value)) ↔ Shaped type (out-Val value)) →
     IsTrue (has_type value given) ↔ IsOf type value
-through type given value shaped =
-    (λ held. subst (IsOf type) (roll-out-Val value) (closed type (out-Val value) (shaped.0 (sym (test-is value given) ∙ held))),
-     λ is. test-is value given ∙ shaped.1 (opened type value is))
+through type given value shaped = (
+  λ held. subst (IsOf type) (roll-out-Val value) (closed type (out-Val value) (shaped.0 (sym (test-is value given) ∙ held))),
+  λ is. test-is value given ∙ shaped.1 (opened type value is),
+)
 
 list-passes : (member : TypeTree) (given : Ty) → ((value : Val) → IsTrue (has_type value given) ↔ IsOf member value) → (members : List Val) →
     IsTrue (list_all (λ is_of. is_of given) (map has_type members)) ↔ AllByRecursion (IsOf member) members
@@ -190,10 +190,11 @@ list-passes member given each (first ∷ others) =
     both (has_type first given) (list_all (λ is_of. is_of given) (map has_type others)) _ _ (each first) (list-passes member given each others)
 
 tree-passes_shaped : (v : Val-F Val) → IsTrue (tested ty.Tree v) ↔ Shaped Tree_type v
-tree-passes_shaped (shape.Node label children) =
-    (λ held. subst (Shaped Tree_type) (out-roll-Val (shape.Node label children))
-        (opened Tree_type (roll-Val (shape.Node label children)) (tree-in (roll-Val (shape.Node label children)) (at-roll (shape.Node label children) ∙ held))),
-     λ are. children-pass children are)
+tree-passes_shaped (shape.Node label children) = (
+  λ held. subst (Shaped Tree_type) (out-roll-Val (shape.Node label children))
+      (opened Tree_type (roll-Val (shape.Node label children)) (tree-in (roll-Val (shape.Node label children)) (at-roll (shape.Node label children) ∙ held))),
+  λ are. children-pass children are,
+)
 tree-passes_shaped _ = neither (λ given. given)
 
 mutual
@@ -203,10 +204,11 @@ mutual
   shape-passes Text_type ty.Text v is = elim v as (λ v. IsTrue (tested ty.Text v) ↔ Shaped Text_type v) [ shape.Text chars ↦ (λ _. tt, λ _. refl) | _ ↦ neither (λ given. given) ]
   shape-passes Bytes_type ty.Bytes v is = elim v as (λ v. IsTrue (tested ty.Bytes v) ↔ Shaped Bytes_type v) [ shape.Bytes bytes ↦ (λ _. tt, λ _. refl) | _ ↦ neither (λ given. given) ]
   shape-passes Tree_type ty.Tree v is = tree-passes_shaped v
-  shape-passes (List_type member) (ty.List box) v is = elim v as (λ v. IsTrue (tested (ty.List box) v) ↔ Shaped (List_type member) v)
-      [ shape.List members ↦ list-passes member box.value (λ value. through member box.value value
-            (shape-passes member (out-Ty box.value) (out-Val value) (stands box.value member is))) members
-      | _ ↦ neither (λ given. given) ]
+  shape-passes (List_type member) (ty.List box) v is = elim v as (λ v. IsTrue (tested (ty.List box) v) ↔ Shaped (List_type member) v) [
+    | shape.List members ↦ list-passes member box.value (λ value. through member box.value value
+        (shape-passes member (out-Ty box.value) (out-Val value) (stands box.value member is))) members
+    | _ ↦ neither (λ given. given)
+  ]
   shape-passes (Tuple_type types) (ty.Tuple givens) v is = elim v as (λ v. IsTrue (tested (ty.Tuple givens) v) ↔ Shaped (Tuple_type types) v)
       [ shape.Tuple members ↦ types-pass types givens members is | _ ↦ neither (λ given. given) ]
   shape-passes type t v is = absurd is
@@ -221,7 +223,7 @@ mutual
       let head : plain_type given ≡ type = cc in
       let tail : plain_types givens ≡ types = cc in
       both (has_type first given) (are_of (map has_type others) givens) _ _
-          (through type given first (shape-passes type (out-Ty given) (out-Val first) (stands given type head))) (types-pass types givens others tail)
+      (through type given first (shape-passes type (out-Ty given) (out-Val first) (stands given type head))) (types-pass types givens others tail)
 
 pub has-type-is-of : (value : Val) (given : Ty) → IsTrue (has_type value given) ↔ IsOf (plain_type given) value
 has-type-is-of value given = through (plain_type given) given value (shape-passes (plain_type given) (out-Ty given) (out-Val value) (stands given (plain_type given) refl))

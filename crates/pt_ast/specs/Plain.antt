@@ -1,5 +1,5 @@
 -- The plain tree of each tree of the code.
-use Rattle.std.specs.Prelude.{ℕ, Option, List, map, option_map}
+use Rattle.std.specs.Prelude.{ℕ, List, map, option_map}
 use Rattle.pt_val.specs.declared.place.Place.{Place}
 use Rattle.pt_val.specs.declared.ty.Ty.{Ty}
 use Rattle.pt_val.specs.declared.ty.Ty.TheOpen.{Ty-F}
@@ -148,7 +148,7 @@ plain_machine m = record {
   states = map plain_state m.states;
   bundles = map plain_bundle m.bundles;
   invariants = map plain_invariant m.invariants;
-  rules = map plain_rule m.rules
+  rules = map plain_rule m.rules;
 }
 
 abbrev pub plain_body : Body → BodyTree

@@ -4,18 +4,18 @@ use Rattle.std.specs.List.{AllByRecursion, list_any}
 use Rattle.std.specs.Option.{option_to_list}
 use Rattle.pt_ast.specs.declared.ident.Ident.{Ident}
 use Rattle.pt_ast.specs.Types.{TypeTree, Bool_type}
-use Rattle.pt_ast.specs.Trees.{StmtTree, Draw_of, Let_of, Assume_of, Assert_of, Pick_of, Set_of, Give_of, StateTree, BundleTree, RuleTree, MachineTree, BodyTree, Check_of, Property_of, Machine_of, ItemTree, SuiteTree}
+use Rattle.pt_ast.specs.Trees.{StmtTree, Draw_of, Let_of, Assume_of, Assert_of, Pick_of, Set_of, Give_of, StateTree, RuleTree, MachineTree, BodyTree, Check_of, Property_of, Machine_of, ItemTree, SuiteTree}
 use Rattle.pt_ast.specs.Bounds.{gives}
 use Rattle.pt_ast.specs.Names.{Scope, type_in, IsFree, with_name, AreDistinct}
 use Rattle.pt_ast.specs.Typing.{HasType, Draws}
 
--- what a rule's statements context of their machine: its states, its bundles by the types of their entries, and the type of the bundle that the rule gives into
+-- what the statements of a rule see of their machine: its states, its bundles by the types of their entries, and the type of the bundle that the rule gives into
 pub record Context : Type 0 where
   pub states : Scope
   pub bundles : Scope
   pub target : Option TypeTree
 
--- a property's statements context nothing of the kind
+-- the statements of a property see nothing of the kind
 abbrev pub no_context : Context
 no_context = record { states = []; bundles = []; target = None }
 

@@ -1,10 +1,8 @@
 -- Which values are of a type.
-use Rattle.std.specs.Prelude.{◌≡◌, ℕ, ℤ, Bool, IsTrue, List, [], ◌∷◌}
+use Rattle.std.specs.Prelude.{◌≡◌, ℕ, ℤ, Bool, List, [], ◌∷◌}
 use Rattle.std.specs.List.{AllByRecursion}
-use Rattle.pt_val.specs.declared.ty.Ty.TheVariants as ty
 use Rattle.pt_val.specs.declared.val.Val.{Val}
 use Rattle.pt_val.specs.declared.val.Val.TheVariants as val
-use Rattle.pt_val.specs.Typing.{has_type}
 use Rattle.pt_ast.specs.declared.binding.Binding.{Binding}
 use Rattle.pt_ast.specs.Types.{TypeTree, Int_type, Bool_type, Text_type, Bytes_type, Tree_type, List_type, Tuple_type, TypeTrees, no_type, more_type}
 use Rattle.pt_ast.specs.Names.{Scope}

@@ -13,9 +13,14 @@ mod suite;
 mod typed;
 
 pub use binding::Binding;
-pub use expr::{Binder, CompareOp, Expr, ExprKind, Exprs, Func, Op, PostTail, PostTails, Tail, Tails};
+pub use expr::{
+    Binder, CompareOp, Expr, ExprKind, Exprs, Func, Op, PostTail, PostTails, Tail, Tails,
+};
 pub use ident::Ident;
-pub use laws::{exprs_have_one_type, sound_suites_have_sound_items, states_leave_one_scope, stmts_leave_one_scope, strats_draw_one_type, values_have_types};
+pub use laws::{
+    exprs_have_one_type, sound_suites_have_sound_items, states_leave_one_scope,
+    stmts_leave_one_scope, strats_draw_one_type, values_have_types,
+};
 pub use stmt::{Stmt, StmtKind, Stmts};
 pub use strat::{Alphabet, Strat, StratKind, Strats};
 pub use suite::{

@@ -2,7 +2,9 @@ ghost use Rattle.std.specs.Prelude.{◌≡◌};
 ghost use Rattle.pt_ast.specs.Trees.{Num, Text_of, Bytes_of, Flag, Var, If_of, Or_of, And_of, Not_of, Compare_of, Sum_of, Prod_of, Neg_of, Post_of, Call_of, Bind_of, Bracket_of, Tuple_of, List_of, tail_of, index_of, part_of};
 ghost use Rattle.pt_ast.specs.Plain.{plain_expr, plain_exprs, plain_tail, plain_tails, plain_post, plain_posts};
 
-use crate::{Binder, CompareOp, Expr, ExprKind, Exprs, Func, Ident, Op, PostTail, PostTails, Tail, Tails};
+use crate::{
+    Binder, CompareOp, Expr, ExprKind, Exprs, Func, Ident, Op, PostTail, PostTails, Tail, Tails,
+};
 use pt_choice::Octets;
 use pt_val::{Chars, Name, Place};
 

@@ -106,7 +106,13 @@ impl Strat {
         }
     }
 
-    pub fn flat_map(at: Place, num: u32, given: Ident, inner: Box<Strat>, second: Box<Strat>) -> Strat
+    pub fn flat_map(
+        at: Place,
+        num: u32,
+        given: Ident,
+        inner: Box<Strat>,
+        second: Box<Strat>,
+    ) -> Strat
         ensures { plain_strat result ≡ FlatMap_of at num given (plain_strat inner.value) (plain_strat second.value) }
     {
         Strat {
@@ -116,7 +122,13 @@ impl Strat {
         }
     }
 
-    pub fn recursive(at: Place, num: u32, depth: u32, first: Box<Strat>, second: Box<Strat>) -> Strat
+    pub fn recursive(
+        at: Place,
+        num: u32,
+        depth: u32,
+        first: Box<Strat>,
+        second: Box<Strat>,
+    ) -> Strat
         ensures { plain_strat result ≡ Recursive_of at num depth (plain_strat first.value) (plain_strat second.value) }
     {
         Strat {
