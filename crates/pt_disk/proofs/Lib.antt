@@ -1,0 +1,11 @@
+pub mod Folders
+pub mod HistoryLemmas
+pub mod KeptLemmas
+pub mod Listed
+pub mod Memory
+pub mod Mentioned
+pub mod Named
+pub mod Names
+pub mod Settling
+pub mod Times
+pub mod Untouched
