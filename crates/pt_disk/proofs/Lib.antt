@@ -6,6 +6,7 @@ pub mod Memory
 pub mod Mentioned
 pub mod Named
 pub mod Names
+pub mod Prefixes
 pub mod Settling
 pub mod Times
 pub mod Untouched

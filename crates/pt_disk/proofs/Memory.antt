@@ -1,8 +1,7 @@
 -- What a disk in memory tells, as its changes grow.
-use Rattle.std.proofs.Common.{◌≡◌, inr, ⊎_elim, ℕ, ◌+◌, List, [], ◌∷◌, ◌++◌, length, take, min, Bool, true, false, Some, Ok, Err, Result, is_ok, IsErr, IsErrOf, IsErrAnd, IfOk, refl, sym, ◌∙◌, ap, subst, arith, length-append}
+use Rattle.std.proofs.Common.{◌≡◌, inr, ⊎_elim, ℕ, ◌+◌, List, [], ◌∷◌, ◌++◌, length, Bool, true, false, Some, Ok, Err, Result, is_ok, IsErr, IsErrOf, IsErrAnd, IfOk, refl, sym, ◌∙◌, ap, subst, arith, length-append}
 use Rattle.std.proofs.lemmas.List.{take_all, take-append-le}
 use Rattle.std.specs.Prelude.{if◌then◌else◌}
-use Rattle.std.proofs.lemmas.Bool.{cases_lt}
 use Rattle.pt_disk.specs.Files.{Files, is_name}
 use Rattle.pt_disk.specs.Folder.{Folder, Stable, After, IsImage, after_rename}
 use Rattle.pt_disk.specs.Moments.{Told, now, Elapsed, IsWithin}
@@ -88,13 +87,6 @@ err-of (Err e) is = ap (λ f. Err f) is
 -- the folder now, of the lists that the code has
 pub folder-now : (disk old : DiskInMemory) → disk ≡ after_call old → folder_of disk.files disk.changes ≡ now (shown old)
 folder-now disk old is = ap (λ (d : DiskInMemory). folder_of d.files d.changes) is ∙ sym (now-shown old)
-
--- the first bytes, of which there may be fewer than were asked for
-pub take-min : (bytes : List ℕ) (cap : ℕ) → take (min (length bytes) cap) bytes ≡ take cap bytes
-take-min bytes cap = ⊎_elim
-    (λ within. ap (λ (n : ℕ). take n bytes) (omega (arith, within)))
-    (λ past. take_all (min (length bytes) cap) bytes (omega (arith, past)) ∙ sym (take_all cap bytes (omega (arith, past))))
-    (cases_lt cap (length bytes))
 
 -- what was made of these files shows them
 pub made-image : {E : Type 0} (result : Result DiskInMemory E) (files : List (List ℕ × List ℕ)) (failing : List ℕ) (folder : Folder) (image : Files) →

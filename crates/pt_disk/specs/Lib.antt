@@ -6,3 +6,4 @@ pub mod Kept
 pub mod Leaves
 pub mod Moments
 pub mod Named
+pub mod Prefixes

@@ -16,6 +16,7 @@ pub use change::Change;
 pub use disk::{Disk, DiskFailed, DiskStop, FileNames};
 pub use image::Keep;
 pub use laws::{
-    a_settle_adds_no_image, a_settled_folder_stays, an_untouched_name_stays, reads_are_an_image,
+    a_delete_leaves_old_or_new, a_save_leaves_old_or_new, a_settle_adds_no_image,
+    a_settled_folder_stays, an_untouched_name_stays, reads_are_an_image,
 };
 pub use memory_disk::{Calls, MemoryDisk, NamedFiles};

@@ -1,4 +1,4 @@
-ghost use Rattle.std.specs.Prelude.{◌≡◌, ◌≢◌, ◌↔◌, ◌≤◌, length, is_ok, IsErr, IsErrOf, IfOk, OnOk, OnErr, IfSome, AllPairs, Some};
+ghost use Rattle.std.specs.Prelude.{◌≡◌, ◌≢◌, ◌↔◌, ◌≤◌, length, is_ok, IsErr, IsErrOf, IfOk, OnOk, OnErr, IfSome, AllPairs, Some, take};
 ghost use Rattle.pt_disk.specs.Folder.{After, after_rename, IsImage};
 ghost use Rattle.pt_disk.specs.Moments.{now};
 ghost use Rattle.pt_disk.specs.Calls.{HasCause, Rests, Changes, AreNames, AreOrdered, IsFirstPart};
@@ -121,6 +121,17 @@ impl MemoryDisk {
     }
 }
 
+// At most so many of the first bytes.
+fn first_part(bytes: &[u8], cap: usize) -> &[u8]
+    ensures { result.now ≡ take cap bytes.now }
+{
+    if cap < bytes.len() {
+        &bytes[..cap]
+    } else {
+        bytes
+    }
+}
+
 fn put_of(alloc: Global, name: &[u8], bytes: &[u8]) -> Result<Change, NoMemory>
     ensures { IfOk result (λ change. change ≡ Change.Put name.now bytes.now) }
 {
@@ -174,7 +185,7 @@ impl Disk for MemoryDisk {
     {
         self.begin()?;
         match bytes_of(self.files.as_slice(), self.changes.as_slice(), name) {
-            Some(bytes) => Ok(Some(Octets::of(alloc, &bytes[..bytes.len().min(cap)])?)),
+            Some(bytes) => Ok(Some(Octets::of(alloc, first_part(bytes, cap))?)),
             None => Ok(None),
         }
     }

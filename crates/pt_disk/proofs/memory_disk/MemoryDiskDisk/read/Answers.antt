@@ -5,7 +5,7 @@ use Rattle.pt_disk.specs.Moments.{now}
 use Rattle.pt_disk.specs.Calls.{IsFirstPart}
 use Rattle.pt_disk.specs.DiskInMemory.{DiskInMemory, folder_of, shown}
 use Rattle.pt_disk.specs.declared.disk.DiskStop.{DiskStop}
-use Rattle.pt_disk.proofs.Memory.{begun-cause, err-of, folder-now, take-min}
+use Rattle.pt_disk.proofs.Memory.{begun-cause, err-of, folder-now}
 use Rattle.pt_disk.proofs.memory_disk.MemoryDiskDisk.read.Goals as goal
 use Rattle.pt_disk.proofs.memory_disk.MemoryDiskDisk.read.Goals.{in-Some+in_ok-of-in-Some, in-None}
 
@@ -24,7 +24,7 @@ returns-clause-part c =
     let answered = λ (r : Result (Option (List ℕ)) DiskStop). IfOk r (IsFirstPart (Some (shown c.args.self.now)) name cap) in
     elim c.match-bytes_of.branch [
       | in-Some+in_ok-of-in-Some w ↦ subst answered (sym w.result-is)
-          (ap (λ (part : List ℕ). Some part) (w.in_ok-of-in-Some.ensures ∙ ap (λ (n : ℕ). take n w.in-Some.bytes.now) w.min.ensures ∙ take-min w.in-Some.bytes.now cap)
+          (ap (λ (part : List ℕ). Some part) (w.in_ok-of-in-Some.ensures ∙ w.first_part.ensures)
           ∙ ap (option_map (λ bytes. take cap bytes)) (w.in-Some.ensures ∙ ap (λ (f : Folder). reads f name) folder))
       | in-None w ↦ subst answered (sym w.result-is)
           (ap (option_map (λ bytes. take cap bytes)) (w.in-None.ensures ∙ ap (λ (f : Folder). reads f name) folder))
