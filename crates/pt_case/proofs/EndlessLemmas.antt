@@ -75,10 +75,9 @@ pub ran-endless : (old now : State) (count : ℕ) (after : State) (why : Stop) �
 ran-endless old now count after stop.NoMemory new few is filled stopped = tt
 ran-endless old now count after stop.Overrun new few is filled stopped =
     let here = spanned old.left count in
-    let many : 1024 ≤ count = elim (rw is at filled refl) [ inl h ↦ cc | inr h ↦ omega (arith, h, length-replicate count left_span) ] in
-    let all : count ≡ 1024 = omega arith in
+    let all : count ≡ 1024 = elim (rw is at filled refl) [ inl h ↦ cc | inr h ↦ sym (length-replicate count left_span) ∙ h ] in
     let spans : spans_at 0 (replicate count left_span) ≡ replicate 1024 shown_span = shown_spans count ∙ ap (λ n. replicate n shown_span) all in
     let way = under_way-kept (λ choices said. said ≡ endless_answer choices) old old here (under_way-new _ old new) refl (sym new.no_choices) (sym new.going) in
     let says : Says (λ choices said. said ≡ endless_answer choices) [] (Cut (spans_at 0 (replicate count left_span)) []) =
     rw spans (says-function endless_answer []) in
-    ran-cut (λ choices said. said ≡ endless_answer choices) old here after way says (stopped refl ∙ ap (λ s. stopped_at s Entry) is)
+    ran-cut (λ choices said. said ≡ endless_answer choices) old here after way says (rw is at filled refl) (stopped refl ∙ ap (λ s. stopped_at s Entry) is)

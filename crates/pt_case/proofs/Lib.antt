@@ -4,4 +4,6 @@ pub mod RegionLemmas
 pub mod UnderWayLemmas
 pub mod PathLemmas
 pub mod RecordLemmas
+pub mod RunsLemmas
+pub mod BetterLemmas
 mod EndlessLemmas

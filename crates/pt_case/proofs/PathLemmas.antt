@@ -112,7 +112,7 @@ answers_itself (kind ∷ kinds) [] same each = absurd (omega (arith, same))
 whole_alone : (path : List Choice) (left : Source) (answer : Answer) → IsWhole path left answer → IsWhole path (Listed []) answer
 whole_alone path left (Ask kind spans notes) whole = inl refl
 whole_alone path left (End ending spans notes) whole = tt
-whole_alone path left (Cut spans notes) whole = tt
+whole_alone path left (Cut spans notes) whole = whole
 
 -- so its path is the path of its own choices
 pub followed-again : (step : List Choice → Answer → Type 0) (source : Source) (path : List Choice) (left : Source) (answer : Answer) →

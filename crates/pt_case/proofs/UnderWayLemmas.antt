@@ -1,6 +1,7 @@
 -- How a run of a check goes on, and how it ends.
 use Rattle.std.proofs.Common.{◌≡◌, ℕ, zero, suc, ◌+◌, ◌<◌, ◌≤◌, true, false, Option, Some, None, List, [], ◌∷◌, ◌++◌, length, inl, inr, refl, sym, ◌∙◌, ap, subst, arith, length-append}
 use Rattle.std.specs.Prelude.{slice_get, IfOk, IsErrOf, Err}
+use Rattle.std.proofs.lemmas.List.{length-map}
 use Rattle.pt_choice.specs.Kind.{admits}
 use Rattle.pt_choice.specs.declared.choice.Choice.{Choice}
 use Rattle.pt_choice.specs.declared.kind.Shape.{Shape}
@@ -9,9 +10,9 @@ use Rattle.pt_case.specs.declared.ending.Ending.TheVariants.{Overrun}
 use Rattle.pt_case.specs.declared.refused.Refused.TheVariants.{Question, Entry}
 use Rattle.pt_case.specs.Ending.{is_overrun}
 use Rattle.pt_case.specs.Source.{Source, answer_to, left_after, AnswersAll}
-use Rattle.pt_case.specs.Region.{spans_at}
+use Rattle.pt_case.specs.Region.{ended, spans_at}
 use Rattle.pt_case.specs.Step.{Answer, Ask, End, Cut, Says, AsksFor, IsAsked}
-use Rattle.pt_case.specs.State.{State, IsNew, IsOver, Answered, Entered, new_state, after_draw, after_enter, after_leave, after_note, stopped_at}
+use Rattle.pt_case.specs.State.{State, IsNew, IsOver, IsFilled, Answered, Entered, new_state, after_draw, after_enter, after_leave, after_note, stopped_at}
 use Rattle.pt_case.specs.Run.{Ran}
 use Rattle.pt_case.specs.UnderWay.{IsUnderWay, ending_of}
 use Rattle.pt_case.specs.declared.stop.Stop.{Stop}
@@ -113,11 +114,20 @@ ran-refused step old now kind after way says over stopped = rw stopped record {
 
 -- the case refuses the span that the check wants
 pub ran-cut : (step : List Choice → Answer → Type 0) (old now after : State) → IsUnderWay step old now →
-    Says step now.choices (Cut (spans_at (length now.choices) now.regions) now.notes) → after ≡ stopped_at now Entry →
+    Says step now.choices (Cut (spans_at (length now.choices) now.regions) now.notes) → IsFilled now → after ≡ stopped_at now Entry →
     Ran step old after Overrun
-ran-cut step old now after way says stopped = rw stopped record {
+ran-cut step old now after way says filled stopped = rw stopped record {
   answer = Cut (spans_at (length now.choices) now.regions) now.notes;
-  followed = record { kinds = way.kinds; asked = way.asked; answered = way.answered; says = says; whole = tt };
+  followed = record {
+    kinds = way.kinds;
+    asked = way.asked;
+    answered = way.answered;
+    says = says;
+    whole = elim filled [
+      | inl h ↦ let stuck = rw way.going at h in cc
+      | inr h ↦ length-map now.regions (ended (length now.choices)) ∙ h
+    ];
+  };
   shown = (refl, refl, refl);
   refused = rw way.going refl;
 }

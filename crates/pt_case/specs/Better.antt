@@ -1,5 +1,5 @@
 -- Which lists are better examples of a failure.
-use Rattle.std.specs.Prelude.{◌≡◌, true, List}
+use Rattle.std.specs.Prelude.{◌≡◌, ◌⊎◌, true, List}
 use Rattle.pt_choice.specs.Order.{IsShorter}
 use Rattle.pt_choice.specs.declared.choice.Choice.{Choice}
 use Rattle.pt_case.specs.Ending.{is_failure}
@@ -14,3 +14,8 @@ pub record IsBetter (step : List Choice → Answer → Type 0) (list : List Choi
   pub fails : is_failure best.ending ≡ true
   pub alike : rec.ending ≡ best.ending
   pub shorter : IsShorter rec.choices best.choices
+
+-- the one record ends as the other does, and its choices are the same or come before
+pub record IsAsGood (one other : Record) : Type 0 where
+  pub alike : one.ending ≡ other.ending
+  pub below : (one.choices ≡ other.choices) ⊎ IsShorter one.choices other.choices

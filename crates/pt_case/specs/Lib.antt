@@ -8,6 +8,7 @@ pub mod Placed
 pub mod State
 pub mod Kept
 pub mod Run
+pub mod Runs
 pub mod UnderWay
 pub mod Samples
 pub mod Better

@@ -16,11 +16,11 @@ use Rattle.pt_case.specs.Region.{spans_at}
 use Rattle.pt_case.specs.Step.{Answer, Ask, End, Cut, Says, IsAsked, kind_asked}
 use Rattle.pt_case.specs.State.{State}
 
--- the path goes no further: the check asks no more, or the list is used up, or 256 choices were made
+-- the path goes no further: the check ends; or it wants a span more than 1,024; or the list is used up, or 256 choices were made
 abbrev pub IsWhole : List Choice → Source → Answer → Type 0
 IsWhole path left (Ask kind spans notes) = (left ≡ Listed []) ⊎ (256 ≤ length path)
 IsWhole path left (End ending spans notes) = Unit {0}
-IsWhole path left (Cut spans notes) = Unit {0}
+IsWhole path left (Cut spans notes) = length spans ≡ 1024
 
 -- The path that the check goes where its questions are answered by the source, as far as it goes. This is left of the source
 -- then, and this is the check's answer after the whole path.

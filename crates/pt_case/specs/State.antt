@@ -35,7 +35,7 @@ IsOver case = (is_some case.refused ≡ true) ⊎ ((case.left ≡ Listed []) ⊎
 
 -- no span is entered any more
 abbrev pub IsFilled : State → Type 0
-IsFilled case = (is_some case.refused ≡ true) ⊎ (1024 ≤ length case.regions)
+IsFilled case = (is_some case.refused ≡ true) ⊎ (length case.regions ≡ 1024)
 
 -- the case after this choice answered a question of this kind
 abbrev pub after_draw : State → Shape → Choice → State

@@ -91,11 +91,13 @@ impl Case {
     }
 
     /// Asks for a choice of this kind. In a replay the answer is the next member of the list, made to fit. A boolean
-    /// and an integer take no memory.
+    /// and an integer are never refused for want of memory. Where another choice is, what was made so far stays, and
+    /// nothing is said of what is left of the source.
     pub fn draw(&mut self, kind: &Kind) -> Result<Choice, Stop>
         ensures answered { IfOk result (λ choice. Answered self.old kind.now choice self.new) }
         ensures overrun { IsErrOf result Stop.Overrun ↔ IsOver self.old }
         ensures stopped { IsErrOf result Stop.Overrun → self.new ≡ stopped_at self.old (Refused.Question kind.now) }
+        ensures kept { IsErrOf result Stop.NoMemory → self.new ≡ record self.old { left = self.new.left } }
         ensures small { AsksSmall kind.now → result ≢ Err Stop.NoMemory }
     {
         if self.refused.is_some() || self.choices.len() == MAX_CHOICES {

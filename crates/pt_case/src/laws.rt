@@ -1,12 +1,11 @@
 //! What follows from the definitions for every check. These functions do nothing: their contracts are the laws.
 
-ghost use Rattle.std.specs.Prelude.{◌≡◌, ◌⊎◌, ℕ, List};
+ghost use Rattle.std.specs.Prelude.{◌≡◌, ℕ, List};
 ghost use Rattle.pt_choice.specs.declared.choice.Choice.{Choice};
-ghost use Rattle.pt_choice.specs.Order.{IsShorter};
 ghost use Rattle.pt_case.specs.declared.record.Record.{Record};
 ghost use Rattle.pt_rng.specs.Supplied.{supply_of_run};
 ghost use Rattle.pt_case.specs.Run.{IsRecord, IsRun};
-ghost use Rattle.pt_case.specs.Better.{IsBetter};
+ghost use Rattle.pt_case.specs.Better.{IsBetter, IsAsGood};
 
 use crate::Check;
 
@@ -37,7 +36,6 @@ pub fn a_run_replays_to_itself<C: Check>(check: &C)
 /// A list that is no better than a failure is no better than a failure alike with the same or shorter choices, so
 /// what a reduction tried in vain need not be tried again.
 pub fn better_goes_down<C: Check>(check: &C)
-    ensures { (list : List Choice) (best lower : Record) →
-        lower.ending ≡ best.ending → ((lower.choices ≡ best.choices) ⊎ IsShorter lower.choices best.choices) →
+    ensures { (list : List Choice) (best lower : Record) → IsAsGood lower best →
         ¬ IsBetter (C.step check.now) list best → ¬ IsBetter (C.step check.now) list lower }
 {}

@@ -16,6 +16,7 @@ mod refused;
 mod region;
 #[cfg(test)]
 mod samples;
+mod sharing;
 mod span;
 mod stop;
 #[cfg(test)]

@@ -1,6 +1,7 @@
-ghost use Rattle.std.specs.Prelude.{◌≡◌, length, IfOk};
+ghost use Rattle.std.specs.Prelude.{◌≡◌, [], ◌∷◌, ◌++◌, length, IfOk, OnOk, OnErr};
 
 use pt_choice::NoMemory;
+use std::alloc::Global;
 use std::marker::Model;
 
 /// A part of an example that belongs together: the choices from `from` up to but without `to`.
@@ -40,6 +41,15 @@ impl From<Vec<Span>> for Spans {
 }
 
 impl Spans {
+    /// No spans. Takes no memory.
+    pub fn empty(alloc: Global) -> Spans
+        ensures { result ≡ [] }
+    {
+        Spans {
+            items: Vec::new(alloc),
+        }
+    }
+
     pub fn len(&self) -> usize
         ensures { result ≡ length self.now }
     {
@@ -57,5 +67,13 @@ impl Spans {
     {
         let items = Vec::from_slice(*self.items.allocator(), self.items.as_slice())?;
         Ok(Spans { items })
+    }
+
+    pub fn push(&mut self, item: Span) -> Result<(), NoMemory>
+        ensures ok { OnOk result (self.new ≡ self.old ++ item ∷ []) }
+        ensures err { OnErr result (self.new ≡ self.old) }
+    {
+        self.items.push(item)?;
+        Ok(())
     }
 }

@@ -1,2 +1,3 @@
 pub mod Admitted
 pub mod OrderLemmas
+pub mod SameLemmas

@@ -9,7 +9,7 @@ use Rattle.std.proofs.lemmas.Cmp.{on_total, then_total, lists_total, nat_cmp_tot
 use Rattle.std.proofs.lemmas.Map.Lookups.{CmpEqualImpliesEq, exact_bytes}
 use Rattle.pt_choice.specs.declared.choice.Choice.{Choice}
 use Rattle.pt_choice.specs.declared.choice.Choice.TheVariants as choice
-use Rattle.pt_choice.specs.Order.{integer_place, choice_key, cmp_choice, shortlex, ExactlyOne, IsStrictOrder}
+use Rattle.pt_choice.specs.Order.{integer_place, choice_key, cmp_choice, shortlex, IsShorter, ExactlyOne, IsStrictOrder}
 
 integer_place-injective : (a b : ℤ) → integer_place a ≡ integer_place b → a ≡ b
 integer_place-injective (pos zero) (pos zero) e = refl
@@ -61,6 +61,10 @@ members-exact (x ∷ xs) (y ∷ ys) e =
 
 pub shortlex-exact : CmpEqualImpliesEq shortlex
 shortlex-exact a b e = members-exact a b (then_Equal (nat_cmp (length a) (length b)) (slice_cmp cmp_choice a b) e).1
+
+-- no list is shorter than itself
+pub not_shorter-itself : (list : List Choice) → ¬ IsShorter list list
+not_shorter-itself list shorter = let same = tied_itself shortlex-total list in cc
 
 -- of an order that tells apart what it compares, "comes before" is strict and total
 module _ {X : Type 0} (cmp : X → X → Ordering) (order : IsTotalOrder cmp) (exact : CmpEqualImpliesEq cmp) where

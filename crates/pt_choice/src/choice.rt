@@ -4,7 +4,7 @@ ghost use Rattle.pt_choice.specs.Kind.{IsSmall};
 use crate::{NoMemory, Octets};
 
 /// One answer that a generator was given.
-#[derive(Debug, PartialEq, Eq, Drop)]
+#[derive(Debug, PartialEq, Eq, Hash, Drop)]
 pub enum Choice {
     Bool(bool),
     /// An offset from the number that reductions go toward.

@@ -2,6 +2,7 @@ ghost use Rattle.std.specs.Prelude.{◌≡◌, ◌<◌, [], ◌∷◌, ◌++◌,
 
 use crate::{Choice, NoMemory};
 use std::alloc::Global;
+use std::hash::{Hash, Hasher};
 use std::marker::Model;
 
 /// A list of choices, which is what an example is made of.
@@ -24,6 +25,41 @@ impl From<Vec<Choice>> for Choices {
 
     fn from(items: Vec<Choice>) -> Choices {
         Choices { items }
+    }
+}
+
+impl PartialEq for Choices {
+    ghost use Rattle.std.specs.Cmp.{partial_equiv_from_equiv};
+    ghost use Rattle.std.specs.Cmp.Lexicographic.{lists_equiv};
+    ghost use Rattle.pt_choice.specs.contracts.choice.ChoiceEq.TheImpl.Laws.{laws-law};
+    ghost use Rattle.pt_choice.specs.Same.{same_choices};
+
+    ghost eq = { same_choices };
+
+    ghost laws = { partial_equiv_from_equiv (lists_equiv laws-law) };
+
+    fn eq(&self, other: &Choices) -> bool {
+        self.as_slice() == other.as_slice()
+    }
+}
+
+impl Eq for Choices {
+    ghost use Rattle.std.specs.Cmp.Lexicographic.{lists_equiv};
+    ghost use Rattle.pt_choice.specs.contracts.choice.ChoiceEq.TheImpl.Laws.{laws-law};
+
+    ghost laws = { lists_equiv laws-law };
+}
+
+impl Hash for Choices {
+    ghost use Rattle.std.specs.Hash as fed;
+    ghost use Rattle.pt_choice.specs.contracts.choice.ChoiceHash.TheImpl.Laws.{respects_eq-law};
+
+    ghost hash_input = { fed.slice ⟦<Choice as Hash>⟧.hash_input };
+
+    ghost respects_eq = { (fed.items_Alike (record { fed = respects_eq-law })).fed };
+
+    fn hash<H: Hasher>(&self, state: &mut H) {
+        self.as_slice().hash(state);
     }
 }
 

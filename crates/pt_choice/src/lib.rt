@@ -6,6 +6,7 @@
 
 mod choice;
 mod choices;
+mod equality;
 mod kind;
 mod memory;
 mod octets;
@@ -15,6 +16,7 @@ mod sharing;
 
 pub use choice::Choice;
 pub use choices::Choices;
+pub use equality::equal_keys_are_the_same;
 pub use kind::{Kind, Shape, admits, fit, simplest};
 pub use memory::NoMemory;
 pub use octets::Octets;

@@ -2,6 +2,7 @@ ghost use Rattle.std.specs.Prelude.{◌≡◌, [], ◌∷◌, ◌++◌, length, 
 
 use crate::NoMemory;
 use std::alloc::Global;
+use std::hash::{Hash, Hasher};
 use std::marker::Model;
 
 /// A list of bytes, as a text to print or a file's content.
@@ -44,6 +45,22 @@ impl Eq for Octets {
     ghost use Rattle.std.specs.Cmp.Lexicographic.{nat_list_eq_equiv};
 
     ghost laws = { nat_list_eq_equiv };
+}
+
+impl Hash for Octets {
+    ghost use Rattle.std.specs.Prelude.{nat_eq};
+    ghost use Rattle.std.specs.Cmp.Lexicographic.{bytes_decides};
+    ghost use Rattle.std.specs.Hash.{same_Alike};
+    ghost use Rattle.pt_choice.specs.Hashing.{octets_input};
+
+    ghost hash_input = { octets_input };
+
+    ghost respects_eq = { (same_Alike octets_input bytes_decides).fed };
+
+    fn hash<H: Hasher>(&self, state: &mut H) {
+        state.write_usize(self.len());
+        state.write(self.as_slice());
+    }
 }
 
 impl Octets {

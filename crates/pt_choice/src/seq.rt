@@ -3,6 +3,7 @@ ghost use Rattle.std.specs.Prelude.{◌≡◌, [], ◌∷◌, ◌++◌, length, 
 use crate::NoMemory;
 use std::alloc::Global;
 use std::marker::Model;
+use std::vec::IntoIter;
 
 /// A list of any type, through which a type may hold itself.
 ///
@@ -58,5 +59,24 @@ impl<T: Drop> Seq<T> {
     {
         self.items.push(item)?;
         Ok(())
+    }
+}
+
+impl<T: Drop> IntoIterator for Seq<T> {
+    ghost use Rattle.std.specs.Prelude.{◌^◌, ◌<◌};
+    ghost use Rattle.std.specs.Iterator.Runs.{EveryRun, ItemsAre};
+    ghost use Rattle.std.specs.Vec.Iter.{into_iter_steps, into_iter_items, into_iter_len};
+    ghost use Rattle.std.specs.declared.alloc.Global.{Global};
+
+    type Item = T;
+
+    type IntoIter = IntoIter<T>;
+
+    /// Gives the items in order.
+    ghost into_iter_gives = { λ seq items. (into_iter_items items ≡ seq) × (into_iter_len items ≡ length seq) × (into_iter_len items < 2 ^ 64)
+        × EveryRun (into_iter_steps {X = T} {Z = Global}) (λ p. ItemsAre p (into_iter_items p.from)) };
+
+    fn into_iter(self) -> IntoIter<T> {
+        self.items.into_iter()
     }
 }

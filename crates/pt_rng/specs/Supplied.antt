@@ -1,11 +1,11 @@
 -- Where the answers of a fresh run come from, and which choice is made for a question.
-use Rattle.std.specs.Prelude.{ℕ, zero, suc, ◌++◌, List, replicate}
+use Rattle.std.specs.Prelude.{◌≡◌, ℕ, zero, suc, ◌++◌, List, replicate}
 use Rattle.std.specs.Int.{w64, to_le_bytes}
 use Rattle.rand_chacha.specs.ChaCha.{ChaCha, key_of}
 use Rattle.pt_choice.specs.Kind.{simplest}
 use Rattle.pt_choice.specs.declared.kind.Shape.{Shape}
 use Rattle.pt_choice.specs.declared.choice.Choice.{Choice}
-use Rattle.pt_rng.specs.Words.{words_after, choice_of, words_read}
+use Rattle.pt_rng.specs.Words.{words_after, choice_of, words_read, HasReadUpTo}
 
 -- always the simplest choice, or choices made of the words that a generator gives
 pub data Supplied : Type 0 where
@@ -29,3 +29,8 @@ supply_of_run seed (suc run) = Streamed (start_of seed (suc run))
 abbrev pub made : Supplied → Shape → Choice × Supplied
 made Simplest asked = (simplest asked, Simplest)
 made (Streamed words) asked = (choice_of words asked, Streamed (words_after words (words_read words asked)))
+
+-- the same supply, which has read at most the words that a choice for this question takes
+abbrev pub HasReadFor : Shape → Supplied → Supplied → Type 0
+HasReadFor asked Simplest now = now ≡ Simplest
+HasReadFor asked (Streamed words) now = (after : ChaCha) × HasReadUpTo (words_read words asked) words after × (now ≡ Streamed after)

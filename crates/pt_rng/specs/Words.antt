@@ -1,5 +1,5 @@
 -- The choice that is made of the words of a stream. Words are counted from 0, from the stream's place on.
-use Rattle.std.specs.Prelude.{ℕ, ℤ, pos, ◌+◌, ◌-◌, ◌*◌, ◌%◌, ◌^◌, ◌+ℤ◌, ◌-ℤ◌, unsigned_abs, ◌==◌, nat_lt, if◌then◌else◌, List, map}
+use Rattle.std.specs.Prelude.{ℕ, ℤ, pos, ◌+◌, ◌-◌, ◌*◌, ◌%◌, ◌^◌, ◌≡◌, ◌≤◌, ◌+ℤ◌, ◌-ℤ◌, unsigned_abs, ◌==◌, nat_lt, if◌then◌else◌, List, map}
 use Rattle.std.specs.List.{range_with_len}
 use Rattle.rand_chacha.specs.ChaCha.{ChaCha, word_at}
 use Rattle.pt_choice.specs.declared.kind.Shape.{Shape}
@@ -46,3 +46,7 @@ words_read from (shape.Bool chance) = 1
 words_read from (shape.Int lo hi) = if nat_lt (nth_word from 0 % 8) 3 then 1 else 3
 words_read from (shape.Bytes min max) = 1 + length_of from min max
 words_read from (shape.Text min max size) = 1 + length_of from min max
+
+-- the same stream, with at most so many words read
+abbrev pub HasReadUpTo : ℕ → ChaCha → ChaCha → Type 0
+HasReadUpTo most from now = (n : ℕ) × (n ≤ most) × (now ≡ words_after from n)

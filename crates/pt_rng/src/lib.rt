@@ -4,6 +4,7 @@
 //! given: run 0 gets the simplest choices, and run i those made from the words of stream i.
 #![tactic(auto)]
 
+mod sharing;
 mod supply;
 #[cfg(test)]
 mod tests;

@@ -1,6 +1,6 @@
-ghost use Rattle.std.specs.Prelude.{◌≡◌, true, IfOk, IsOk};
+ghost use Rattle.std.specs.Prelude.{◌≡◌, true, IfOk, OnErr, IsOk};
 ghost use Rattle.pt_choice.specs.Kind.{admits, AsksSmall};
-ghost use Rattle.pt_rng.specs.Supplied.{Simplest, Streamed, key_bytes, start_of, supply_of_run, made};
+ghost use Rattle.pt_rng.specs.Supplied.{Simplest, Streamed, key_bytes, start_of, supply_of_run, made, HasReadFor};
 
 use crate::words::choice_from;
 use pt_choice::{Choice, Kind, NoMemory, simplest};
@@ -66,12 +66,13 @@ impl Supply {
         }
     }
 
-    /// The next choice, which the kind admits. A boolean and an integer take no memory. After a refusal nothing is
-    /// said of the place in the stream.
+    /// The next choice, which the kind admits. A boolean and an integer are never refused. After a refusal the supply
+    /// is the same, but some of the words that the choice takes may have been read.
     pub fn next_choice(&mut self, alloc: Global, kind: &Kind) -> Result<Choice, NoMemory>
         ensures made { IfOk result (λ choice. made self.old kind.now ≡ (choice, self.new)) }
         ensures admitted { IfOk result (λ choice. admits kind.now choice ≡ true) }
         ensures small { AsksSmall kind.now → IsOk result }
+        ensures refused { OnErr result (HasReadFor kind.now self.old self.new) }
     {
         match &mut self.source {
             Source::Simplest => simplest(alloc, kind),

@@ -3,10 +3,10 @@
 //! Short runs are to meet the ends of a range and 0 often, since faults stand there: three of eight integers are one
 //! of these, and cost one word.
 
-ghost use Rattle.std.specs.Prelude.{◌≡◌, ◌+◌, ◌<◌, ◌≤◌, ◌^◌, true, IfOk, OnOk, IsOk};
+ghost use Rattle.std.specs.Prelude.{◌≡◌, ◌+◌, ◌<◌, ◌≤◌, ◌^◌, true, IfOk, OnOk, OnErr, IsOk};
 ghost use Rattle.pt_choice.specs.Kind.{admits, AsksSmall, IsShape};
 ghost use Rattle.pt_choice.specs.declared.kind.Shape.TheVariants.{Int};
-ghost use Rattle.pt_rng.specs.Words.{nth_word, words_after, length_of, numbers_of, integer_of, choice_of, words_read};
+ghost use Rattle.pt_rng.specs.Words.{nth_word, words_after, length_of, numbers_of, integer_of, choice_of, words_read, HasReadUpTo};
 
 use pt_choice::{Choice, Kind, NoMemory, Octets, Shape};
 use rand_chacha::ChaCha8Rng;
@@ -22,6 +22,7 @@ pub(crate) fn choice_from(
     ensures made { IfOk result (λ choice. choice ≡ choice_of words.old kind.now) }
     ensures admitted { IfOk result (λ choice. admits kind.now choice ≡ true) }
     ensures moved { OnOk result (words.new ≡ words_after words.old (words_read words.old kind.now)) }
+    ensures part { OnErr result (HasReadUpTo (words_read words.old kind.now) words.old words.new) }
     ensures place { words.new.word_pos < 2 ^ 68 }
     ensures small { AsksSmall kind.now → IsOk result }
 {
@@ -77,6 +78,7 @@ fn octets_from(
         IfOk result (λ octets. octets ≡ numbers_of words.old size count) }
     ensures moved { let count = length_of words.old min max in
         OnOk result (words.new ≡ words_after words.old (1 + count)) }
+    ensures part { let count = length_of words.old min max in OnErr result (HasReadUpTo (1 + count) words.old words.new) }
     ensures place { words.new.word_pos < 2 ^ 68 }
 {
     let count = u32::from(min) + next_word(words) % (u32::from(max - min) + 1);

@@ -7,20 +7,11 @@ use Rattle.pt_case.specs.Step.{Answer}
 use Rattle.pt_case.specs.Run.{IsRun, IsRecord}
 use Rattle.pt_case.specs.Ending.{is_pass, is_failure}
 use Rattle.pt_case.specs.declared.record.Record.{Record}
-use Rattle.pt_run.specs.Outcome.{AreRuns, AreOpen, IsFinding, passes, failures}
+use Rattle.pt_case.specs.Runs.{AreRuns}
+use Rattle.pt_case.proofs.RunsLemmas.{runs-push}
+use Rattle.pt_run.specs.Outcome.{AreOpen, IsFinding, passes, failures}
 use Rattle.pt_run.specs.declared.finding.Found.TheVariants.{Run}
 use Rattle.pt_run.specs.declared.finding.Verdict.TheVariants.{Passed, GaveUp, Failed}
-
--- the run that follows
-pub AreRuns-push : (step : List Choice → Answer → Type 0) (seed first : ℕ) (records : List Record) (rec : Record) (run : ℕ) →
-    AreRuns step seed first records → run ≡ first + length records → IsRun step (supply_of_run seed run) rec →
-    AreRuns step seed first (records ++ rec ∷ [])
-AreRuns-push step seed first [] rec run runs at made =
-    let here : run ≡ first = omega arith in
-    (subst (λ (n : ℕ). IsRun step (supply_of_run seed n) rec) here made, tt)
-AreRuns-push step seed first (other ∷ records) rec run runs at made =
-    let next : run ≡ first + 1 + length records = omega arith in
-    (runs.0, AreRuns-push step seed (first + 1) records rec run runs.1 next made)
 
 -- one more passes or not
 pub passes-push : (records : List Record) (rec : Record) (valid : ℕ) → valid ≡ passes records →
@@ -35,7 +26,7 @@ failures-push records rec none passed = grind (arith, common_steps)
 -- so many runs were made, so many of them passed, and they decide nothing yet
 pub record Going (step : List Choice → Answer → Type 0) (seed runs run valid : ℕ) : Type 0 where
   pub records : List Record
-  pub made : AreRuns step seed 0 records
+  pub made : AreRuns step seed 0 run records
   pub as_many : length records ≡ run
   pub undecided : AreOpen runs records
   pub passing : valid ≡ passes records
@@ -44,7 +35,7 @@ pub record Going (step : List Choice → Answer → Type 0) (seed runs run valid
 pub Going-none : (step : List Choice → Answer → Type 0) (seed runs : ℕ) → 1 ≤ runs → Going step seed runs 0 0
 Going-none step seed runs some = record {
   records = [];
-  made = tt;
+  made = refl;
   as_many = refl;
   undecided = record { none_failed = refl; not_enough = omega arith };
   passing = refl;
@@ -59,7 +50,7 @@ Going-push step seed runs run valid now rec going made passed counted fewer =
     let before : valid < runs = rw going.passing going.undecided.not_enough in
     record {
       records = going.records ++ rec ∷ [];
-      made = AreRuns-push step seed 0 going.records rec run going.made (omega (arith, going.as_many)) made;
+      made = runs-push step seed 0 run going.records rec going.made made;
       as_many = omega (arith, going.as_many, length-append going.records (rec ∷ []));
       undecided = record {
         none_failed = failures-push going.records rec going.undecided.none_failed passed;
@@ -77,7 +68,7 @@ IsFinding-failed step name seed runs run valid now rec going within made failed 
   named = refl;
   asked = refl;
   records = going.records ++ rec ∷ [];
-  made = AreRuns-push step seed 0 going.records rec run going.made (omega (arith, going.as_many)) made;
+  made = runs-push step seed 0 run going.records rec going.made made;
   decided = (going.records, refl, going.undecided, omega (arith, going.as_many), failed, sym going.as_many);
   all_seen = omega (arith, going.as_many, length-append going.records (rec ∷ []));
   all_valid = counted ∙ sym (passes-push going.records rec valid going.passing);
@@ -95,7 +86,7 @@ IsFinding-passed step name seed runs run valid now rec going within made counted
       named = refl;
       asked = refl;
       records = going.records ++ rec ∷ [];
-      made = AreRuns-push step seed 0 going.records rec run going.made (omega (arith, going.as_many)) made;
+      made = runs-push step seed 0 run going.records rec going.made made;
       decided = (going.records, rec, refl, going.undecided, omega (arith, going.as_many), passing ∙ sym counted ∙ enough);
       all_seen = omega (arith, going.as_many, length-append going.records (rec ∷ []));
       all_valid = counted ∙ sym passing;

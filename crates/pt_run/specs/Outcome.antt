@@ -1,9 +1,9 @@
 -- What the runs of a check come to.
-use Rattle.std.specs.Prelude.{◌≡◌, ℕ, ◌+◌, ◌*◌, ◌<◌, true, List, [], ◌∷◌, ◌++◌, length, count_by}
+use Rattle.std.specs.Prelude.{◌≡◌, ℕ, ◌*◌, ◌<◌, true, List, [], ◌∷◌, ◌++◌, length, count_by}
 use Rattle.pt_choice.specs.declared.choice.Choice.{Choice}
-use Rattle.pt_rng.specs.Supplied.{supply_of_run}
 use Rattle.pt_case.specs.Step.{Answer}
-use Rattle.pt_case.specs.Run.{IsRun, IsRecord}
+use Rattle.pt_case.specs.Run.{IsRecord}
+use Rattle.pt_case.specs.Runs.{AreRuns}
 use Rattle.pt_case.specs.Ending.{is_pass, is_failure}
 use Rattle.pt_case.specs.declared.record.Record.{Record}
 use Rattle.pt_run.specs.declared.finding.Finding.{Finding}
@@ -18,11 +18,6 @@ passes records = count_by (λ rec. is_pass rec.ending) records
 -- how many of them failed
 abbrev pub failures : List Record → ℕ
 failures records = count_by (λ rec. is_failure rec.ending) records
-
--- these are the records of the runs first, first + 1 and so on
-abbrev pub AreRuns : (List Choice → Answer → Type 0) → ℕ → ℕ → List Record → Type 0
-AreRuns step seed first [] = Unit {0}
-AreRuns step seed first (rec ∷ records) = IsRun step (supply_of_run seed first) rec × AreRuns step seed (first + 1) records
 
 -- These runs decide nothing yet: none failed, and fewer passed than were asked for.
 pub record AreOpen (runs : ℕ) (records : List Record) : Type 0 where
@@ -51,7 +46,7 @@ pub record IsFinding (step : List Choice → Answer → Type 0) (name : List ℕ
   pub named : finding.name ≡ name
   pub asked : finding.runs ≡ runs
   pub records : List Record
-  pub made : AreRuns step seed 0 records
+  pub made : AreRuns step seed 0 finding.seen records
   pub decided : Decides runs records finding.verdict
   pub all_seen : finding.seen ≡ length records
   pub all_valid : finding.valid ≡ passes records

@@ -4,10 +4,12 @@
 mod chars;
 mod equality;
 mod name;
+mod names;
 mod place;
 mod printing;
 #[cfg(test)]
 mod samples;
+mod sharing;
 mod sizing;
 mod ty;
 mod typing;
@@ -16,6 +18,7 @@ mod val;
 pub use chars::Chars;
 pub use equality::same;
 pub use name::{Name, NameStop};
+pub use names::Names;
 pub use place::Place;
 pub use printing::show;
 pub use sizing::size;

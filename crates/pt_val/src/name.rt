@@ -4,6 +4,7 @@ ghost use Rattle.pt_val.specs.Name.{is_name, is_name_byte};
 
 use pt_choice::{NoMemory, Octets};
 use std::alloc::Global;
+use std::hash::{Hash, Hasher};
 use std::marker::Model;
 
 /// A name that a suite gives to an item, a variable or a bundle.
@@ -24,6 +25,40 @@ impl Model for Name {
     ghost view = { λ name. name.bytes };
 
     ghost invariant = { λ name. IsTrue (is_name name.bytes) };
+}
+
+impl PartialEq for Name {
+    ghost use Rattle.std.specs.Prelude.{nat_eq};
+    ghost use Rattle.std.specs.Cmp.{partial_equiv_from_equiv};
+    ghost use Rattle.std.specs.Cmp.Lexicographic.{pointwise, nat_list_eq_equiv};
+
+    ghost eq = { pointwise nat_eq };
+
+    ghost laws = { partial_equiv_from_equiv nat_list_eq_equiv };
+
+    fn eq(&self, other: &Name) -> bool {
+        self.bytes == other.bytes
+    }
+}
+
+impl Eq for Name {
+    ghost use Rattle.std.specs.Cmp.Lexicographic.{nat_list_eq_equiv};
+
+    ghost laws = { nat_list_eq_equiv };
+}
+
+impl Hash for Name {
+    ghost use Rattle.std.specs.Cmp.Lexicographic.{bytes_decides};
+    ghost use Rattle.std.specs.Hash.{same_Alike};
+    ghost use Rattle.pt_choice.specs.Hashing.{octets_input};
+
+    ghost hash_input = { octets_input };
+
+    ghost respects_eq = { (same_Alike octets_input bytes_decides).fed };
+
+    fn hash<H: Hasher>(&self, state: &mut H) {
+        self.bytes.hash(state);
+    }
 }
 
 /// Why a text gives no name.
@@ -52,10 +87,19 @@ impl Name {
         ensures form { IfOk result (λ _. IsTrue (is_name text.now)) }
         ensures refused { (result ≡ Err NameStop.NotAName) ↔ (is_name text.now ≡ false) }
     {
-        if !is_name(text.as_bytes()) {
+        Name::of_bytes(alloc, text.as_bytes())
+    }
+
+    /// The name of these bytes, as they stand in a text that is read byte by byte.
+    pub fn of_bytes(alloc: Global, text: &[u8]) -> Result<Name, NameStop>
+        ensures name { IfOk result (λ name. name ≡ text.now) }
+        ensures form { IfOk result (λ _. IsTrue (is_name text.now)) }
+        ensures refused { (result ≡ Err NameStop.NotAName) ↔ (is_name text.now ≡ false) }
+    {
+        if !is_name(text) {
             return Err(NameStop::NotAName);
         }
-        let bytes = Octets::of(alloc, text.as_bytes())?;
+        let bytes = Octets::of(alloc, text)?;
         Ok(Name { bytes })
     }
 
