@@ -1,5 +1,5 @@
 -- How the code notes a list before it is made.
-use Rattle.std.specs.Prelude.{ℕ, ◌+◌, false, List, [], ◌∷◌, ◌++◌, take, drop, slice_index_or}
+use Rattle.std.specs.Prelude.{ℕ, ◌+◌, ◌≤◌, false, length, List, [], ◌∷◌, ◌++◌, take, drop, slice_index_or}
 use Rattle.std.specs.List.{cons_option}
 use Rattle.pt_choice.specs.declared.choice.Choice.{Choice}
 use Rattle.pt_choice.specs.declared.choice.Choice.TheVariants as choice
@@ -13,6 +13,11 @@ use Rattle.pt_cand.specs.SwapSiblings.{swapped}
 -- a first part, perhaps another place, and a last part
 abbrev pub changed : Change → List ℕ → List ℕ
 changed change octets = take change.front octets ++ cons_option change.put (drop change.back octets)
+
+-- the parts are parts of this list
+pub record FitsIn (octets : List ℕ) (change : Change) : Type 0 where
+  pub front : change.front ≤ length octets
+  pub back : change.back ≤ length octets
 
 abbrev pub changed_choice : Change → Choice → Choice
 changed_choice change (choice.Bytes octets) = choice.Bytes (changed change octets)

@@ -1,16 +1,20 @@
 -- What a walk that stands at a cursor still has to hand out.
-use Rattle.std.specs.Prelude.{ℕ, ◌+◌, nat_lt, if◌then◌else◌, ℤ, unsigned_abs, Bool, true, false, List, [], ◌∷◌, ◌++◌, map, take, drop, length}
+use Rattle.std.specs.Prelude.{ℕ, ◌+◌, nat_eq, if◌then◌else◌, ℤ, Bool, true, false, List, [], ◌∷◌, ◌++◌, map, take, drop, length}
 use Rattle.std.specs.List.{filter}
+use Rattle.std.specs.Cmp.{int_eq}
+use Rattle.std.specs.Cmp.Lexicographic.{pointwise}
 use Rattle.pt_choice.specs.declared.choice.Choice.{Choice}
 use Rattle.pt_choice.specs.declared.choice.Choice.TheVariants as choice
 use Rattle.pt_case.specs.declared.span.Span.{Span}
 use Rattle.pt_case.specs.declared.record.Record.{Record}
 use Rattle.pt_cand.specs.declared.cursor.Cursor.{Cursor}
+use Rattle.pt_cand.specs.declared.pairs.Together.{Together}
+use Rattle.pt_cand.specs.declared.pairs.Together.TheVariants.{Nearer, Against}
 use Rattle.pt_cand.specs.declared.pass.Pass.{Pass}
 use Rattle.pt_cand.specs.declared.pass.Pass.TheVariants.{DeleteSpan, Descend, LowerOne, LowerPair, SwapSiblings, LowerDelete, Shift}
 use Rattle.pt_cand.specs.Each.{at_each, each_once}
 use Rattle.pt_cand.specs.Region.{regions, regions_after, without}
-use Rattle.pt_cand.specs.Lower.{lower, lower_integers, lower_octets, same_integer, same_octets}
+use Rattle.pt_cand.specs.Lower.{lower, lower_integers, lower_octets}
 use Rattle.pt_cand.specs.LowerOne.{replaced}
 use Rattle.pt_cand.specs.Moves.{with_later, of_integers, in_places, both_nearer, shifted}
 use Rattle.pt_cand.specs.Descend.{is_among, below, may_replace, descended, descend_at}
@@ -29,9 +33,9 @@ once_after same members looked = each_once same (take (looked + 1) members) (dro
 -- the lower choices, where so many were looked at, repeats counted
 abbrev pub lower_after : Choice → ℕ → List Choice
 lower_after (choice.Bool value) looked = drop looked (lower (choice.Bool value))
-lower_after (choice.Int value) looked = map (λ v. choice.Int v) (once_after same_integer (value ∷ lower_integers value) looked)
-lower_after (choice.Bytes octets) looked = map (λ o. choice.Bytes o) (once_after same_octets (octets ∷ lower_octets octets) looked)
-lower_after (choice.Text octets) looked = map (λ o. choice.Text o) (once_after same_octets (octets ∷ lower_octets octets) looked)
+lower_after (choice.Int value) looked = map (λ v. choice.Int v) (once_after int_eq (value ∷ lower_integers value) looked)
+lower_after (choice.Bytes octets) looked = map (λ o. choice.Bytes o) (once_after (pointwise nat_eq) (octets ∷ lower_octets octets) looked)
+lower_after (choice.Text octets) looked = map (λ o. choice.Text o) (once_after (pointwise nat_eq) (octets ∷ lower_octets octets) looked)
 
 -- the numbers of the spans below these, once the spans were looked at
 abbrev pub known_after : List ℕ → ℕ → List Span → List ℕ
@@ -48,6 +52,11 @@ abbrev pub later_after : (ℤ → ℤ → List (ℤ × ℤ)) → ℕ → ℕ →
 later_after make passed made front one back =
     left_at (λ between other rest. map (in_places front between rest) (drop made (of_integers make one other)))
         (λ between other rest. map (in_places front between rest) (of_integers make one other)) (take passed back) (drop passed back)
+
+-- by how they are moved
+abbrev pub moved_by : Together → ℤ → ℤ → List (ℤ × ℤ)
+moved_by Nearer x y = both_nearer x y
+moved_by Against x y = shifted x y
 
 abbrev pub pairs_left : (ℤ → ℤ → List (ℤ × ℤ)) → List Choice → Cursor → List (List Choice)
 pairs_left make choices cursor = left_at (later_after make cursor.inner cursor.slot) (with_later make) (take cursor.place choices) (drop cursor.place choices)

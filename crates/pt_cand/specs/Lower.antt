@@ -1,5 +1,6 @@
 -- The lower choices that are tried in place of a choice.
-use Rattle.std.specs.Prelude.{ℕ, ◌+◌, ◌-◌, ◌/◌, Bool, true, false, nat_eq, ℤ, pos, negsuc, neg_ℤ, unsigned_abs, int_div, List, [], ◌∷◌, ◌++◌, map, take, length}
+use Rattle.std.specs.Prelude.{ℕ, ◌+◌, ◌-◌, ◌/◌, nat_eq, ℤ, pos, negsuc, neg_ℤ, unsigned_abs, int_div, List, [], ◌∷◌, ◌++◌, map, take, length}
+use Rattle.std.specs.Cmp.{int_eq}
 use Rattle.std.specs.Cmp.Lexicographic.{pointwise}
 use Rattle.pt_choice.specs.declared.choice.Choice.{Choice}
 use Rattle.pt_choice.specs.declared.choice.Choice.TheVariants as choice
@@ -22,19 +23,10 @@ lower_place front place back = (front ++ back) ∷ (front ++ 0 ∷ back) ∷ (fr
 abbrev pub lower_octets : List ℕ → List (List ℕ)
 lower_octets octets = take (length octets / 2) octets ∷ at_each lower_place [] octets
 
-abbrev pub same_integer : ℤ → ℤ → Bool
-same_integer (pos one) (pos other) = nat_eq one other
-same_integer (negsuc one) (negsuc other) = nat_eq one other
-same_integer (pos one) (negsuc other) = false
-same_integer (negsuc one) (pos other) = false
-
-abbrev pub same_octets : List ℕ → List ℕ → Bool
-same_octets one other = pointwise nat_eq one other
-
 -- the lower choices in order; the choice itself and repeats are left out
 abbrev pub lower : Choice → List Choice
 lower (choice.Bool false) = []
 lower (choice.Bool true) = choice.Bool false ∷ []
-lower (choice.Int value) = map (λ v. choice.Int v) (each_once same_integer (value ∷ []) (lower_integers value))
-lower (choice.Bytes octets) = map (λ o. choice.Bytes o) (each_once same_octets (octets ∷ []) (lower_octets octets))
-lower (choice.Text octets) = map (λ o. choice.Text o) (each_once same_octets (octets ∷ []) (lower_octets octets))
+lower (choice.Int value) = map (λ v. choice.Int v) (each_once int_eq (value ∷ []) (lower_integers value))
+lower (choice.Bytes octets) = map (λ o. choice.Bytes o) (each_once (pointwise nat_eq) (octets ∷ []) (lower_octets octets))
+lower (choice.Text octets) = map (λ o. choice.Text o) (each_once (pointwise nat_eq) (octets ∷ []) (lower_octets octets))

@@ -1,5 +1,5 @@
 -- Two sibling spans exchanged.
-use Rattle.std.specs.Prelude.{ℕ, Bool, true, false, ◌&&◌, nat_eq, nat_le, if◌then◌else◌, Option, Some, None, List, [], ◌∷◌, ◌++◌, take, drop}
+use Rattle.std.specs.Prelude.{ℕ, ◌≤◌, Bool, true, false, ◌&&◌, nat_eq, nat_le, if◌then◌else◌, Option, Some, None, List, [], ◌∷◌, ◌++◌, take, drop}
 use Rattle.std.specs.List.{find}
 use Rattle.std.specs.Ordering.{is_lt}
 use Rattle.pt_choice.specs.Order.{shortlex}
@@ -17,6 +17,13 @@ same_number one other = false
 -- they have the same parent, or have both none
 abbrev pub are_siblings : Span → Span → Bool
 are_siblings one other = same_number one.parent other.parent
+
+-- the second span stands behind the first, within so many choices
+pub record InOrder (count : ℕ) (one other : Span) : Type 0 where
+  pub begins : one.from ≤ one.to
+  pub behind : one.to ≤ other.from
+  pub ends : other.from ≤ other.to
+  pub within : other.to ≤ count
 
 -- two regions exchanged, and what lies between left
 abbrev pub swapped : List Choice → Span → Span → List Choice

@@ -1,9 +1,11 @@
 //! The lower integers that are tried in place of one.
 
-ghost use Rattle.std.specs.Prelude.{◌≡◌, ◌<◌, ℕ, ◌+◌, ℤ, ◌∷◌, MatchOption, slice_index_or, List, []};
+ghost use Rattle.std.specs.Prelude.{◌≡◌, ◌<◌, pos, ◌∷◌, [], take, MatchOption, slice_index_or};
+ghost use Rattle.std.specs.Cmp.{int_eq};
+ghost use Rattle.std.specs.List.{list_any};
 ghost use Rattle.pt_choice.specs.Limits.{IsBounded};
-ghost use Rattle.pt_cand.specs.Lower.{nearer, lower_integers, same_integer};
 ghost use Rattle.pt_cand.specs.Left.{once_after};
+ghost use Rattle.pt_cand.specs.Lower.{lower_integers, nearer};
 
 /// Moved toward zero by so much, and no further than zero.
 pub(crate) fn nearer(value: i128, by: u64) -> i128
@@ -14,10 +16,11 @@ pub(crate) fn nearer(value: i128, by: u64) -> i128
     if value < 0 { -left } else { left }
 }
 
-// The integer itself, and those that are tried in its place, with repeats.
+// The integer itself, and behind it those that are tried in its place, with repeats.
 fn numbered(value: i128, number: usize) -> i128
-    requires { IsBounded value }
-    ensures { number < 5 → slice_index_or (value ∷ lower_integers value) number result ≡ result }
+    requires bounded { IsBounded value }
+    requires within { number < 5 }
+    ensures { result ≡ slice_index_or (value ∷ lower_integers value) number (pos 0) }
 {
     match number {
         0 => value,
@@ -29,7 +32,12 @@ fn numbered(value: i128, number: usize) -> i128
 }
 
 // Whether an earlier one of them is the same.
-fn is_repeat(value: i128, number: usize) -> bool {
+fn is_repeat(value: i128, number: usize) -> bool
+    requires bounded { IsBounded value }
+    requires within { number < 5 }
+    ensures { result ≡ list_any (int_eq (slice_index_or (value ∷ lower_integers value) number (pos 0)))
+        (take number (value ∷ lower_integers value)) }
+{
     let low = numbered(value, number);
     for earlier in 0..number {
         if numbered(value, earlier) == low {
@@ -39,13 +47,13 @@ fn is_repeat(value: i128, number: usize) -> bool {
     false
 }
 
-/// The next lower integer, once so many were looked at, and how many were looked at with it.
+/// The next lower integer where so many were looked at, and how many were looked at with it.
 pub(crate) fn next_integer(value: i128, looked: usize) -> Option<(i128, usize)>
     requires { IsBounded value }
     ensures { MatchOption result
-        (once_after same_integer (value ∷ lower_integers value) looked ≡ [])
-        (λ next. once_after same_integer (value ∷ lower_integers value) looked
-            ≡ next.0 ∷ once_after same_integer (value ∷ lower_integers value) next.1) }
+        (once_after int_eq (value ∷ lower_integers value) looked ≡ [])
+        (λ next. once_after int_eq (value ∷ lower_integers value) looked
+            ≡ next.0 ∷ once_after int_eq (value ∷ lower_integers value) next.1) }
 {
     for number in looked..4 {
         if !is_repeat(value, number + 1) {
