@@ -6,3 +6,4 @@ pub mod DescendLemmas
 pub mod LessLemmas
 pub mod OctetLemmas
 pub mod SwapLemmas
+pub mod FindLemmas
