@@ -1,19 +1,22 @@
 -- A step of each pass at one place, and what it leaves of the whole.
-use Rattle.std.proofs.Common.{◌≡◌, ◌<◌, ◌≤◌, ℕ, ◌+◌, ◌&&◌, Bool, true, false, cond, ℤ, Option, Some, None, List, [], ◌∷◌, ◌++◌, map, length, take, drop, get_or, sym, ap, ◌∙◌, refl, subst, arith, add-zero, unsigned_abs, nat_lt}
+use Rattle.std.proofs.Common.{◌≡◌, ◌<◌, ◌≤◌, ℕ, zero, suc, ◌+◌, ◌⊎◌, inl, inr, nat_eq, ◌&&◌, Bool, true, false, cond, ℤ, Option, Some, None, List, [], ◌∷◌, ◌++◌, map, length, take, drop, get_or, sym, ap, ◌∙◌, refl, subst, arith, add-zero, unsigned_abs, nat_lt}
 use Rattle.std.specs.Prelude.{if◌then◌else◌}
 use Rattle.std.specs.List.{find, filter}
-use Rattle.std.proofs.lemmas.List.{length-take-le, length-drop, get_or-drop}
+use Rattle.std.specs.Cmp.{int_eq}
+use Rattle.std.specs.Cmp.Lexicographic.{pointwise}
+use Rattle.std.proofs.lemmas.List.{length-take-le, length-drop, get_or-drop, get_or_default}
 use Rattle.pt_choice.specs.declared.choice.Choice.{Choice}
 use Rattle.pt_choice.specs.declared.choice.Choice.TheVariants as choice
 use Rattle.pt_case.specs.declared.record.Record.{Record}
 use Rattle.pt_case.specs.declared.span.Span.{Span}
 use Rattle.pt_cand.specs.declared.cursor.Cursor.{Cursor}
+use Rattle.pt_cand.specs.declared.edit.Change.{Change}
 use Rattle.pt_cand.specs.declared.edit.Edit.TheVariants as edit
 use Rattle.pt_cand.specs.declared.pass.Pass.TheVariants as pass
 use Rattle.pt_cand.specs.Descend.{below, is_among, may_replace, descended, descend_at}
-use Rattle.pt_cand.specs.Edit.{edited, put_at}
-use Rattle.pt_cand.specs.Left.{known_after, left_of, lower_after, descend_after}
-use Rattle.pt_cand.specs.Lower.{lower, nearer}
+use Rattle.pt_cand.specs.Edit.{changed, changed_choice, edited, put_at}
+use Rattle.pt_cand.specs.Left.{known_after, left_of, lower_after, descend_after, once_after}
+use Rattle.pt_cand.specs.Lower.{lower, lower_integers, lower_octets, nearer}
 use Rattle.pt_cand.specs.LowerDelete.{less_without}
 use Rattle.pt_cand.specs.LowerOne.{replaced}
 use Rattle.pt_cand.specs.Region.{regions, regions_after, without}
@@ -119,6 +122,67 @@ module _ (best : Record) (at : Cursor) where
         left_at-none (λ front given back. replaced front back (lower_after given at.inner)) (λ front given back. replaced front back (lower_after given 0))
             (λ front given back. replaced front back (lower given)) (λ front given back. ap (replaced front back) (lower_after-start given)) best.choices at.place d within
             (ap (replaced front back) is)
+
+    -- a choice that is true becomes false
+    pub lower-flag : given ≡ choice.Bool true → at.inner ≡ 0 →
+        left_of pass.LowerOne best at ≡ edited best.choices (edit.Unset at.place) ∷ left_of pass.LowerOne best (past at 1)
+    lower-flag is first =
+        lower-found (choice.Bool false) 1
+            (ap (λ g. lower_after g at.inner) is ∙ ap (λ n. drop n (choice.Bool false ∷ [])) first ∙ sym (ap (λ g. choice.Bool false ∷ lower_after g 1) is))
+
+    flag-none : (value : Bool) (n : ℕ) → (value ≡ false) ⊎ (1 ≤ n) → lower_after (choice.Bool value) n ≡ []
+    flag-none false zero end = refl
+    flag-none false (suc n) end = refl
+    flag-none true zero end = elim end [ inl no ↦ absurd cc | inr later ↦ absurd (omega (arith, later)) ]
+    flag-none true (suc zero) end = refl
+    flag-none true (suc (suc n)) end = refl
+
+    pub lower-flag_none : (value : Bool) → given ≡ choice.Bool value → (value ≡ false) ⊎ (1 ≤ at.inner) →
+        left_of pass.LowerOne best at ≡ left_of pass.LowerOne best (start_of (at.place + 1))
+    lower-flag_none value is end = lower-none (ap (λ g. lower_after g at.inner) is ∙ flag-none value at.inner end)
+
+    -- an integer
+    abbrev integers : ℤ → ℕ → List ℤ
+    integers value looked = once_after int_eq (value ∷ lower_integers value) looked
+
+    pub lower-integer : (value : ℤ) → given ≡ choice.Int value → (low : ℤ) (inner : ℕ) → integers value at.inner ≡ low ∷ integers value inner →
+        left_of pass.LowerOne best at ≡ edited best.choices (edit.Put at.place low) ∷ left_of pass.LowerOne best (past at inner)
+    lower-integer value is low inner next =
+        lower-found (choice.Int low) inner
+            (ap (λ g. lower_after g at.inner) is ∙ ap (map (λ v. choice.Int v)) next ∙ sym (ap (λ g. choice.Int low ∷ lower_after g inner) is))
+
+    pub lower-integer_none : (value : ℤ) → given ≡ choice.Int value → integers value at.inner ≡ [] →
+        left_of pass.LowerOne best at ≡ left_of pass.LowerOne best (start_of (at.place + 1))
+    lower-integer_none value is none = lower-none (ap (λ g. lower_after g at.inner) is ∙ ap (map (λ v. choice.Int v)) none)
+
+    -- bytes or a text
+    abbrev lists : List ℕ → ℕ → List (List ℕ)
+    lists octets looked = once_after (pointwise nat_eq) (octets ∷ lower_octets octets) looked
+
+    same-given : get_or best.choices at.place (choice.Bool false) ≡ given
+    same-given = get_or_default best.choices at.place (choice.Bool false) d within
+
+    pub lower-bytes : (octets : List ℕ) → given ≡ choice.Bytes octets → (change : Change) (inner : ℕ) → lists octets at.inner ≡ changed change octets ∷ lists octets inner →
+        left_of pass.LowerOne best at ≡ edited best.choices (edit.Change at.place change) ∷ left_of pass.LowerOne best (past at inner)
+    lower-bytes octets is change inner next =
+        lower-found (choice.Bytes (changed change octets)) inner
+            (ap (λ g. lower_after g at.inner) is ∙ ap (map (λ o. choice.Bytes o)) next ∙ sym (ap (λ g. choice.Bytes (changed change octets) ∷ lower_after g inner) is))
+        ∙ ap (λ g. put_at at.place (changed_choice change g) best.choices ∷ left_of pass.LowerOne best (past at inner)) (sym (same-given ∙ is))
+
+    pub lower-bytes_none : (octets : List ℕ) → given ≡ choice.Bytes octets → lists octets at.inner ≡ [] →
+        left_of pass.LowerOne best at ≡ left_of pass.LowerOne best (start_of (at.place + 1))
+    lower-bytes_none octets is none = lower-none (ap (λ g. lower_after g at.inner) is ∙ ap (map (λ o. choice.Bytes o)) none)
+
+    pub lower-text : (octets : List ℕ) → given ≡ choice.Text octets → (change : Change) (inner : ℕ) → lists octets at.inner ≡ changed change octets ∷ lists octets inner →
+        left_of pass.LowerOne best at ≡ edited best.choices (edit.Change at.place change) ∷ left_of pass.LowerOne best (past at inner)
+    lower-text octets is change inner next =
+        lower-found (choice.Text (changed change octets)) inner
+            (ap (λ g. lower_after g at.inner) is ∙ ap (map (λ o. choice.Text o)) next ∙ sym (ap (λ g. choice.Text (changed change octets) ∷ lower_after g inner) is))
+        ∙ ap (λ g. put_at at.place (changed_choice change g) best.choices ∷ left_of pass.LowerOne best (past at inner)) (sym (same-given ∙ is))
+
+    pub lower-text_none : (octets : List ℕ) → given ≡ choice.Text octets → lists octets at.inner ≡ [] →
+        left_of pass.LowerOne best at ≡ left_of pass.LowerOne best (start_of (at.place + 1))
+    lower-text_none octets is none = lower-none (ap (λ g. lower_after g at.inner) is ∙ ap (map (λ o. choice.Text o)) none)
 
     abbrev less_after : ℕ → List Choice → Choice → List Choice → List (List Choice)
     less_after number = less_without (regions_after (take number best.spans) (drop number best.spans))
