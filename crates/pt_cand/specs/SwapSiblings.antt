@@ -1,6 +1,7 @@
 -- Two sibling spans exchanged.
-use Rattle.std.specs.Prelude.{ℕ, ◌≤◌, Bool, true, false, ◌&&◌, nat_eq, nat_le, if◌then◌else◌, Option, Some, None, List, [], ◌∷◌, ◌++◌, take, drop}
+use Rattle.std.specs.Prelude.{ℕ, ◌≤◌, Bool, ◌&&◌, nat_eq, nat_le, if◌then◌else◌, Option, Some, None, List, [], ◌∷◌, ◌++◌, take, drop}
 use Rattle.std.specs.List.{find}
+use Rattle.std.specs.Option.{option_eq}
 use Rattle.std.specs.Ordering.{is_lt}
 use Rattle.pt_choice.specs.Order.{shortlex}
 use Rattle.pt_choice.specs.declared.choice.Choice.{Choice}
@@ -8,15 +9,9 @@ use Rattle.pt_case.specs.declared.span.Span.{Span}
 use Rattle.pt_cand.specs.Each.{at_each}
 use Rattle.pt_cand.specs.Region.{before, inside, after}
 
--- the same number, or none on either side
-abbrev pub same_number : Option ℕ → Option ℕ → Bool
-same_number None None = true
-same_number (Some one) (Some other) = nat_eq one other
-same_number one other = false
-
 -- they have the same parent, or have both none
 abbrev pub are_siblings : Span → Span → Bool
-are_siblings one other = same_number one.parent other.parent
+are_siblings one other = option_eq nat_eq one.parent other.parent
 
 -- the second span stands behind the first, within so many choices
 pub record InOrder (count : ℕ) (one other : Span) : Type 0 where
