@@ -1,5 +1,5 @@
 -- What is no better than a failure stays no better.
-use Rattle.std.proofs.Common.{◌≡◌, List, sym, ◌∙◌, ap, subst, refl, inl, inr}
+use Rattle.std.proofs.Common.{List, sym, ◌∙◌, ap, subst, refl, inl, inr}
 use Rattle.pt_choice.specs.declared.choice.Choice.{Choice}
 use Rattle.pt_choice.specs.Order.{IsShorter}
 use Rattle.pt_choice.proofs.OrderLemmas.{shortlex-total, not_shorter-itself}

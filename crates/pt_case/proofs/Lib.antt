@@ -6,4 +6,3 @@ pub mod PathLemmas
 pub mod RecordLemmas
 pub mod RunsLemmas
 pub mod BetterLemmas
-mod EndlessLemmas

@@ -10,5 +10,4 @@ pub mod Kept
 pub mod Run
 pub mod Runs
 pub mod UnderWay
-pub mod Samples
 pub mod Better

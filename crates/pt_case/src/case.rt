@@ -114,7 +114,7 @@ impl Case {
         }
     }
 
-    /// Enters a span of this label, below the innermost open one. It takes no memory.
+    /// Enters a span of this label, below the innermost open one. It is never refused for want of memory.
     pub fn enter(&mut self, label: u32) -> Result<(), Stop>
         ensures entered { OnOk result (Entered self.old label self.new) }
         ensures overrun { IsErrOf result Stop.Overrun ↔ IsFilled self.old }
@@ -135,7 +135,7 @@ impl Case {
         Ok(())
     }
 
-    /// Leaves the innermost open span, which ends after the last choice. It takes no memory.
+    /// Leaves the innermost open span, which ends after the last choice.
     pub fn leave(&mut self)
         requires { IsSome (innermost self.old.regions) }
         ensures { self.new ≡ after_leave self.old }
@@ -179,8 +179,7 @@ impl Case {
         Stop::Overrun
     }
 
-    /// The record of the case, which ended so. Spans that are still open end after the last choice. It takes no
-    /// memory.
+    /// The record of the case, which ended so. Spans that are still open end after the last choice.
     pub fn finish(self, ending: Ending) -> Record
         ensures choices { result.choices ≡ self.choices }
         ensures spans { result.spans ≡ spans_at (length self.choices) self.regions }

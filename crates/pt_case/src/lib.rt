@@ -14,13 +14,9 @@ mod note;
 mod record;
 mod refused;
 mod region;
-#[cfg(test)]
-mod samples;
 mod sharing;
 mod span;
 mod stop;
-#[cfg(test)]
-mod tests;
 
 pub use case::{Case, MAX_CHOICES, MAX_SPANS};
 pub use check::{Check, asks, fresh, replay};

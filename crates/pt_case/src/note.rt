@@ -42,7 +42,7 @@ impl Model for Notes {
 }
 
 impl Notes {
-    /// No notes. Takes no memory.
+    /// No notes.
     pub fn empty(alloc: Global) -> Notes
         ensures { result ≡ [] }
     {

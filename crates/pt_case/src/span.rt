@@ -41,7 +41,7 @@ impl From<Vec<Span>> for Spans {
 }
 
 impl Spans {
-    /// No spans. Takes no memory.
+    /// No spans.
     pub fn empty(alloc: Global) -> Spans
         ensures { result ≡ [] }
     {

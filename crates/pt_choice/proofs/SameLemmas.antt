@@ -1,5 +1,5 @@
 -- What is equal as a key is the same, and the other way round.
-use Rattle.std.proofs.Common.{◌≡◌, Bool, ap, List}
+use Rattle.std.proofs.Common.{◌≡◌, ap, List}
 use Rattle.std.specs.Bool.{Decides}
 use Rattle.std.specs.Cmp.{booleans_Decides, signed_Decides}
 use Rattle.std.specs.Cmp.Lexicographic.{bytes_decides, pointwise_decides}

@@ -15,7 +15,7 @@ pub enum Choice {
 }
 
 impl Choice {
-    /// The same choice. A boolean and an integer take no memory.
+    /// The same choice. For a boolean or an integer it never fails.
     pub fn copy(&self) -> Result<Choice, NoMemory>
         ensures same { IfOk result (λ choice. choice ≡ self.now) }
         ensures small { IsSmall self.now → IsOk result }

@@ -64,7 +64,7 @@ impl Hash for Choices {
 }
 
 impl Choices {
-    /// No choices. Takes no memory.
+    /// No choices.
     pub fn empty(alloc: Global) -> Choices
         ensures { result ≡ [] }
     {

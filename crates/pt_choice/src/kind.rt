@@ -130,7 +130,7 @@ fn are_below(places: &[u8], size: u16) -> bool
     places.iter().all(|place| u16::from(*place) < size)
 }
 
-/// The simplest choice of a kind, toward which every reduction goes. A boolean and an integer take no memory.
+/// The simplest choice of a kind, toward which every reduction goes. For a boolean or an integer it never fails.
 pub fn simplest(alloc: Global, kind: &Kind) -> Result<Choice, NoMemory>
     ensures value { IfOk result (λ choice. choice ≡ simplest kind.now) }
     ensures admitted { IfOk result (λ choice. admits kind.now choice ≡ true) }
@@ -145,7 +145,7 @@ pub fn simplest(alloc: Global, kind: &Kind) -> Result<Choice, NoMemory>
 }
 
 /// The choice itself where the kind admits it, and else the simplest one: so an answer to one question serves for
-/// another. Kinds of booleans and integers take no memory.
+/// another. For kinds of booleans and integers it never fails.
 pub fn fit(alloc: Global, kind: &Kind, choice: &Choice) -> Result<Choice, NoMemory>
     ensures value { IfOk result (λ fitted. fitted ≡ fit kind.now choice.now) }
     ensures admitted { IfOk result (λ fitted. admits kind.now fitted ≡ true) }

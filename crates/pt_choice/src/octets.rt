@@ -64,7 +64,7 @@ impl Hash for Octets {
 }
 
 impl Octets {
-    /// No bytes. Takes no memory.
+    /// No bytes.
     pub fn empty(alloc: Global) -> Octets
         ensures { result ≡ [] }
     {

@@ -25,7 +25,7 @@ impl<T> Model for Seq<T> {
 }
 
 impl<T> Seq<T> {
-    /// No items. Takes no memory.
+    /// No items.
     pub fn empty(alloc: Global) -> Seq<T>
         ensures { result ≡ [] }
     {

@@ -1,5 +1,5 @@
 -- What a write to a sink does.
-use Rattle.std.specs.Prelude.{◌≡◌, ℕ, ◌<◌, ◌≤◌, List, ◌++◌, length, take, Option, Result, IfOk, OnErr}
+use Rattle.std.specs.Prelude.{◌≡◌, ℕ, ◌<◌, ◌≤◌, List, ◌++◌, length, take, Option, Result, IfOk, OnOk, OnErr}
 use Rattle.std.specs.Option.{option_map}
 use Rattle.pt_io.specs.declared.files.IoFailed.{IoFailed}
 use Rattle.pt_choice.specs.Faults.{Rose}
@@ -24,4 +24,5 @@ pub record Wrote (old : Written) (from : List ℕ) (result : Result ℕ IoFailed
   pub some : IfOk result (λ n. 0 < length from → 0 < n)
   pub written : IfOk result (λ n. Appends old.bytes (take n from) new.bytes)
   pub kept : OnErr result (new.bytes ≡ old.bytes)
+  pub quiet : OnOk result (new.faults ≡ old.faults)
   pub cause : OnErr result (Rose old.faults new.faults)

@@ -6,8 +6,11 @@ ghost use Rattle.pt_io.specs.Files.{Shown, Chose, Moved};
 pub struct IoFailed;
 
 /// Files that are chosen by name and read in pieces. A call after a failed one is allowed.
+///
+/// An object counts the calls that failed, and how many times a file was chosen, as `u64`s that stand still at their
+/// greatest value. A call that answers counts no fault.
 pub trait Files {
-    /// The faults, and what is told of the files and of the bytes that are left.
+    /// The two counts, and what is told of the files and of the bytes that are left.
     ghost shows: { Self → Shown };
 
     /// Chooses the file of this name, to be read from its start. After a failure nothing is chosen.

@@ -9,11 +9,9 @@ mod memory_files;
 mod memory_sink;
 mod reading;
 mod sink;
-#[cfg(test)]
-mod tests;
 
 pub use files::{Files, IoFailed};
 pub use memory_files::{Calls, MemoryFiles, NamedFiles};
 pub use memory_sink::MemorySink;
-pub use reading::{MAX_BYTES, ReadStop, read_whole};
+pub use reading::{ReadStop, read_whole};
 pub use sink::{Sink, write_all};

@@ -1,6 +1,15 @@
-ghost use Rattle.std.specs.Prelude.{◌≡◌, ◌≢◌, ◌↔◌, ◌⊎◌, ◌++◌, [], length, take, drop, is_ok, IsErr, IfOk, IfSome, IfNone, min, None, Some, AllPairs, refl};
+ghost use Rattle.std.specs.Prelude.{◌≡◌, ◌≢◌, ◌↔◌, ◌⊎◌, ◌++◌, [], length, take, drop, is_ok, IsErr, OnOk, OnErr, IfOk, IfSome, IfNone, IsSomeAnd, min, None, Some, AllPairs, refl};
 ghost use Rattle.pt_io.specs.Files.{Chose, Moved};
-ghost use Rattle.pt_io.specs.FilesInMemory.{shown, content_of, bytes_at, begun, FailsNext};
+ghost use Rattle.pt_io.specs.FilesInMemory.{
+  shown,
+  content_of,
+  bytes_at,
+  after_choose,
+  after_no_choose,
+  after_read,
+  after_no_read,
+  FailsNext,
+};
 
 use crate::{Files, IoFailed};
 use pt_choice::{Octets, Seq};
@@ -12,14 +21,15 @@ pub type NamedFiles = Seq<(Octets, Octets)>;
 /// The numbers, from 1, of the calls that are to fail.
 pub type Calls = Seq<u64>;
 
-/// Files in memory, which tell everything. A call takes no memory.
+/// Files in memory, which tell everything. A call never fails for want of memory.
 #[derive(Debug, Drop)]
 pub struct MemoryFiles {
     files: NamedFiles,
     failing: Calls,
     calls: u64,
+    chosen: u64,
     // The chosen file's place in `files`, or their number, and how much of it was read.
-    chosen: usize,
+    place: usize,
     at: usize,
     faults: u64,
 }
@@ -32,23 +42,24 @@ impl Model for MemoryFiles {
     ghost use Rattle.std.specs.Prelude.{◌≤◌, length, drop};
     ghost use Rattle.pt_io.specs.FilesInMemory.{bytes_at};
 
-    ghost view = { λ m. record { files = m.files; failing = m.failing; calls = m.calls; left = drop m.at (bytes_at m.files m.chosen); faults = m.faults } };
+    ghost view = { λ m. record { files = m.files; failing = m.failing; calls = m.calls; chosen = m.chosen; left = drop m.at (bytes_at m.files m.place); faults = m.faults } };
 
-    ghost invariant = { λ m. m.at ≤ length (bytes_at m.files m.chosen) };
+    ghost invariant = { λ m. m.at ≤ length (bytes_at m.files m.place) };
 }
 
 impl MemoryFiles {
     /// These files, of which none is chosen. The calls with these numbers will fail.
     pub fn of(files: NamedFiles, failing: Calls) -> MemoryFiles
         requires { AllPairs (λ one other. one.0 ≢ other.0) files }
-        ensures { result ≡ record { files = files; failing = failing; calls = 0; left = []; faults = 0 } }
+        ensures { result ≡ record { files = files; failing = failing; calls = 0; chosen = 0; left = []; faults = 0 } }
     {
-        let chosen = files.len();
+        let place = files.len();
         MemoryFiles {
             files,
             failing,
             calls: 0,
-            chosen,
+            chosen: 0,
+            place,
             at: 0,
             faults: 0,
         }
@@ -65,17 +76,19 @@ impl Files for MemoryFiles {
     fn choose(&mut self, name: &str) -> Result<(), IoFailed>
         ensures chose { Chose (shown self.old) name.now (is_ok result) (shown self.new) }
         ensures fails { IsErr result ↔ (FailsNext self.old ⊎ (content_of self.old.files name.now ≡ None)) }
-        ensures counted { self.new ≡ begun self.old self.new.left self.new.faults }
+        ensures ok { OnOk result (IsSomeAnd (content_of self.old.files name.now) (λ bytes. self.new ≡ after_choose self.old bytes)) }
+        ensures failed { OnErr result (self.new ≡ after_no_choose self.old) }
     {
         self.calls = self.calls.saturating_add(1);
+        self.chosen = self.chosen.saturating_add(1);
         self.at = 0;
         if !self.failing.as_slice().contains(&self.calls) {
             if let Some(place) = place_of(self.files.as_slice(), name.as_bytes()) {
-                self.chosen = place;
+                self.place = place;
                 return Ok(());
             }
         }
-        self.chosen = self.files.len();
+        self.place = self.files.len();
         self.faults = self.faults.saturating_add(1);
         Err(IoFailed)
     }
@@ -83,15 +96,16 @@ impl Files for MemoryFiles {
     fn read(&mut self, into: &mut [u8]) -> Result<usize, IoFailed>
         ensures moved { Moved (shown self.old) into.old result into.new (shown self.new) }
         ensures fails { IsErr result ↔ FailsNext self.old }
-        ensures counted { self.new ≡ begun self.old self.new.left self.new.faults }
         ensures most { IfOk result (λ n. n ≡ min (length into.old) (length self.old.left)) }
+        ensures ok { IfOk result (λ n. self.new ≡ after_read self.old n) }
+        ensures failed { OnErr result ((self.new ≡ after_no_read self.old) × (into.new ≡ into.old)) }
     {
         self.calls = self.calls.saturating_add(1);
         if self.failing.as_slice().contains(&self.calls) {
             self.faults = self.faults.saturating_add(1);
             return Err(IoFailed);
         }
-        let bytes = bytes_at(self.files.as_slice(), self.chosen);
+        let bytes = bytes_at(self.files.as_slice(), self.place);
         let n = copy_first(&bytes[self.at..], into);
         self.at += n;
         Ok(n)

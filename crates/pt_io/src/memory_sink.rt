@@ -1,7 +1,6 @@
-ghost use Rattle.std.specs.Prelude.{◌≡◌, ◌⊎◌, [], OnOk, OnErr};
+ghost use Rattle.std.specs.Prelude.{◌≡◌, ◌⊎◌, [], length, IfOk, OnOk, OnErr};
 ghost use Rattle.pt_io.specs.Sink.{Wrote};
-ghost use Rattle.pt_choice.specs.Faults.{Rose, next_count};
-ghost use Rattle.pt_io.specs.SinkInMemory.{shown, FailsNext};
+ghost use Rattle.pt_io.specs.SinkInMemory.{shown, after_write, after_no_write, after_starved, FailsNext};
 
 use crate::{Calls, IoFailed, Sink};
 use std::alloc::Global;
@@ -58,9 +57,10 @@ impl Sink for MemorySink {
 
     fn write(&mut self, from: &[u8]) -> Result<usize, IoFailed>
         ensures wrote { Wrote (shown self.old) from.now result (shown self.new) }
-        ensures fails { OnErr result (FailsNext self.old ⊎ Rose self.old.starved self.new.starved) }
-        ensures succeeds { OnOk result ((FailsNext self.old → ⊥) × (self.new.starved ≡ self.old.starved)) }
-        ensures counted { self.new ≡ record self.old { written = self.new.written; calls = next_count self.old.calls; faults = self.new.faults; starved = self.new.starved } }
+        ensures fails { FailsNext self.old → OnErr result (self.new ≡ after_no_write self.old) }
+        ensures starved { (FailsNext self.old → ⊥) → OnErr result (self.new ≡ after_starved self.old) }
+        ensures ok { OnOk result ((FailsNext self.old → ⊥) × (self.new ≡ after_write self.old from.now)) }
+        ensures whole { IfOk result (λ n. n ≡ length from.now) }
     {
         self.calls = self.calls.saturating_add(1);
         if self.failing.as_slice().contains(&self.calls) {

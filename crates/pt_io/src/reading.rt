@@ -1,14 +1,15 @@
-ghost use Rattle.std.specs.Prelude.{◌≡◌, ◌<◌, ◌≤◌, length, true, IfOk, IsErrOf};
-ghost use Rattle.pt_choice.specs.Faults.{Rose};
-ghost use Rattle.pt_io.specs.Files.{HasBytes, HasNone};
+ghost use Rattle.std.specs.Prelude.{◌≡◌, true, IfOk, IsErrOf};
+ghost use Rattle.pt_choice.specs.Faults.{Rose, next_count};
+ghost use Rattle.pt_io.specs.Files.{HasBytes, HasNone, IsSame};
+ghost use Rattle.pt_io.specs.Reading.{IsWithinLimit, IsPastLimit};
 ghost use Rattle.pt_io.specs.declared.reading.ReadStop.TheVariants.{NoMemory as OutOfMemory};
 
 use crate::Files;
 use pt_choice::{NoMemory, Octets};
 use std::alloc::{AllocError, Global};
 
-/// The most bytes of a file that is read whole.
-pub const MAX_BYTES: usize = 1_048_576;
+// The most bytes of a file that is read whole.
+const MAX_BYTES: usize = 1_048_576;
 
 // How many bytes are asked for at once.
 const PIECE: usize = 4096;
@@ -18,7 +19,7 @@ const PIECE: usize = 4096;
 pub enum ReadStop {
     /// A call of the files failed.
     Failed,
-    /// The file has more than `MAX_BYTES` bytes.
+    /// The file has more than 1,048,576 bytes.
     TooLarge,
     NoMemory,
 }
@@ -31,18 +32,22 @@ impl From<AllocError> for ReadStop {
     }
 }
 
-/// All the bytes of the file of this name. It ends on every file, also on one that grows while it is read, since each
-/// turn but the last takes a byte.
+/// All the bytes of the file of this name, which is chosen once and read to its end. It ends on every file, also on
+/// one that grows while it is read, since each turn but the last takes a byte.
 pub fn read_whole<F: Files>(alloc: Global, files: &mut F, name: &str) -> Result<Octets, ReadStop>
     ensures whole { IfOk result (λ bytes. HasBytes (F.shows files.old) name.now (λ there. there ≡ bytes)) }
-    ensures small { IfOk result (λ bytes. length bytes ≤ MAX_BYTES) }
+    ensures small { IfOk result IsWithinLimit }
 
-    ensures large { IsErrOf result ReadStop.TooLarge → HasBytes (F.shows files.old) name.now (λ bytes. MAX_BYTES < length bytes) }
+    ensures large { IsErrOf result ReadStop.TooLarge → HasBytes (F.shows files.old) name.now IsPastLimit }
 
+    // It failed exactly where a call of the files did, and a fault is counted in no other case.
     ensures failed { IsErrOf result ReadStop.Failed → Rose (F.shows files.old).faults (F.shows files.new).faults }
+    ensures quiet { (IsErrOf result ReadStop.Failed → ⊥) → (F.shows files.new).faults ≡ (F.shows files.old).faults }
     ensures absent { IsErrOf result ReadStop.Failed → (F.shows files.old).steady ≡ true → HasNone (F.shows files.old) name.now }
 
-    ensures later { (F.shows files.old).faults ≤ (F.shows files.new).faults }
+    // The files are the same ones, of which one was chosen, once.
+    ensures same { IsSame (F.shows files.old) (F.shows files.new) }
+    ensures once { (F.shows files.new).chosen ≡ next_count (F.shows files.old).chosen }
 {
     let Ok(()) = files.choose(name) else {
         return Err(ReadStop::Failed);

@@ -1,5 +1,5 @@
 ghost use Rattle.std.specs.Prelude.{◌≡◌, IfOk};
-ghost use Rattle.pt_main.specs.Checks.{always_name, always_answer};
+ghost use Rattle.pt_main.specs.Checks.{always_name, always_says};
 
 use pt_case::{Case, Check, Ending, Origin};
 use pt_choice::NoMemory;
@@ -27,7 +27,7 @@ impl Always {
 impl Check for Always {
     ghost name = { λ check. check.name };
 
-    ghost step = { λ check choices said. said ≡ always_answer choices };
+    ghost step = { λ check. always_says };
 
     fn name(&self) -> &Name {
         &self.name

@@ -1,12 +1,12 @@
 ghost use Rattle.std.specs.Prelude.{◌≡◌, IfOk};
-ghost use Rattle.pt_choice.specs.declared.kind.Shape.TheVariants.{Bool};
-ghost use Rattle.pt_case.specs.State.{IsNew};
-ghost use Rattle.pt_case.specs.Run.{Ran};
-ghost use Rattle.pt_case.specs.UnderWay.{ending_of};
-ghost use Rattle.pt_main.specs.Checks.{never_name, never_answer};
+ghost use Rattle.pt_plan.specs.Came.{Drew};
+ghost use Rattle.pt_plan.specs.Ended.{Settles};
+ghost use Rattle.pt_plan.specs.Stop.{draw_halt};
+ghost use Rattle.pt_main.specs.Checks.{never_name, never_plan, never_says};
 
-use pt_case::{Case, Check, Ending, Stop};
-use pt_choice::{Kind, NoMemory};
+use pt_case::{Case, Check, Ending};
+use pt_choice::NoMemory;
+use pt_plan::{DrawStop, ask_flag, ending_of};
 use pt_val::Name;
 use std::alloc::Global;
 
@@ -31,28 +31,21 @@ impl Never {
 impl Check for Never {
     ghost name = { λ check. check.name };
 
-    ghost step = { λ check choices said. said ≡ never_answer choices };
+    ghost step = { λ check. never_says };
 
     fn name(&self) -> &Name {
         &self.name
     }
 
     fn run(&self, case: &mut Case) -> Result<Ending, NoMemory> {
-        Ending::of(draws_one(case))
+        ending_of(draws_one(case))
     }
 }
 
-fn draws_one(case: &mut Case) -> Result<Ending, Stop>
-    requires { IsNew case.old }
-    ensures { IfOk (ending_of result) (λ ending. Ran (λ choices said. said ≡ never_answer choices) case.old case.new ending) }
+fn draws_one(case: &mut Case) -> Result<Ending, DrawStop>
+    ensures drew { Drew draw_halt never_plan case.old case.new result }
+    ensures settles { Settles result }
 {
-    case.draw(&fair())?;
+    ask_flag(case, 8)?;
     Ok(Ending::Pass)
-}
-
-/// A boolean that is as often true as false.
-pub fn fair() -> Kind
-    ensures { result ≡ Bool 8 }
-{
-    Kind::of_bool(8).unwrap()
 }

@@ -6,8 +6,6 @@
 
 mod sharing;
 mod supply;
-#[cfg(test)]
-mod tests;
 mod words;
 
 pub use supply::Supply;

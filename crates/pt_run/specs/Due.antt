@@ -1,12 +1,12 @@
 -- Which message is due.
-use Rattle.std.specs.Prelude.{◌≡◌, ◌≢◌, ◌⊎◌, ℕ, ◌<◌, ◌≤◌, true, List, length, Option, Some, String, slice_get}
+use Rattle.std.specs.Prelude.{◌≡◌, ◌≢◌, ◌⊎◌, ℕ, true, List, Option, Some, String, slice_get}
 use Rattle.std.specs.declared.alloc.Global.{Global}
 use Rattle.pt_choice.specs.declared.choice.Choice.{Choice}
 use Rattle.pt_case.specs.Step.{Answer}
 use Rattle.pt_case.specs.Run.{IsRecord}
 use Rattle.pt_choice.specs.Faults.{Rose}
 use Rattle.pt_io.specs.Files.{Shown, HasBytes, HasNone}
-use Rattle.pt_io.specs.declared.reading.TheConstants.{MAX_BYTES}
+use Rattle.pt_io.specs.Reading.{IsWithinLimit, IsPastLimit}
 use Rattle.pt_run.specs.declared.message.Message.{Message}
 use Rattle.pt_run.specs.declared.message.Message.TheVariants.{Refused, Reported, Replayed}
 use Rattle.pt_run.specs.declared.refusal.Refusal.{Refusal}
@@ -23,30 +23,31 @@ SaysOf (Replay suite item list) name step runs (Replayed shown rec) = (name ≡ 
 SaysOf (Replay suite item list) name step runs (Refused UnknownItem) = name ≢ item
 SaysOf other name step runs message = ⊥
 
--- The suite names a check, one of those handed in, of which the message is true.
+-- The suite was read with no fault, and names a check, one of those handed in, of which the message is true.
 pub record IsTold {C : Type 0} (name : C → List ℕ) (step : C → List Choice → Answer → Type 0) (checks : List C)
-    (files : Shown) (asked : Asked) (message : Message) : Type 0 where
+    (old new : Shown) (asked : Asked) (message : Message) : Type 0 where
+  pub quiet : new.faults ≡ old.faults
   pub check : C
   pub runs : ℕ
   pub place : ℕ
   pub handed_in : slice_get checks place ≡ Some check
-  pub named : HasBytes files (suite_of asked) (λ bytes. Names name checks bytes check runs)
+  pub named : HasBytes old (suite_of asked) (λ bytes. IsWithinLimit bytes × Names name checks bytes check runs)
   pub says : SaysOf asked (name check) (step check) runs message
 
 -- No check was found, from files that show this before and after.
 abbrev pub IsUnfound : {C : Type 0} → (C → List ℕ) → List C → Shown → Shown → List ℕ → Refusal → Type 0
 -- a call of the files failed, and where they are steady they do not have the suite
 IsUnfound name checks old new suite Unreadable = Rose old.faults new.faults × (old.steady ≡ true → HasNone old suite)
-IsUnfound name checks old new suite TooLarge = HasBytes old suite (λ bytes. MAX_BYTES < length bytes)
+IsUnfound name checks old new suite TooLarge = (new.faults ≡ old.faults) × HasBytes old suite IsPastLimit
 IsUnfound name checks old new suite NotBuilt =
-    HasBytes old suite (λ bytes. (length bytes ≤ MAX_BYTES) × NamesNone name checks bytes)
+    (new.faults ≡ old.faults) × HasBytes old suite (λ bytes. IsWithinLimit bytes × NamesNone name checks bytes)
 IsUnfound name checks old new suite other = ⊥
 
 -- The message is due of what was asked for: no check was found, or this is told of one.
 abbrev pub IsDue : {C : Type 0} → (C → List ℕ) → (C → List Choice → Answer → Type 0) → List C → Shown → Shown → Asked → Message → Type 0
 IsDue name step checks old new asked message =
     ((refusal : Refusal) × (message ≡ Refused refusal) × IsUnfound name checks old new (suite_of asked) refusal)
-    ⊎ IsTold name step checks old asked message
+    ⊎ IsTold name step checks old new asked message
 
 -- The message answers the words: they ask for nothing, or for something of which it is due.
 abbrev pub IsAnswer : {C : Type 0} → (C → List ℕ) → (C → List Choice → Answer → Type 0) → List C → Shown → Shown → List (String Global) → Message → Type 0
@@ -60,7 +61,7 @@ pub record IsRunnable {C : Type 0} (name : C → List ℕ) (checks : List C) (fi
   pub told : files.named ≡ Some content
   pub bytes : List ℕ
   pub there : content (suite_of asked) ≡ Some bytes
-  pub small : length bytes ≤ MAX_BYTES
+  pub small : IsWithinLimit bytes
   pub check : C
   pub runs : ℕ
   pub names : Names name checks bytes check runs

@@ -1,5 +1,5 @@
 -- What a call of the program has to say, and what it writes then.
-use Rattle.std.specs.Prelude.{◌≡◌, ◌⊎◌, ℕ, List, [], ◌∷◌, Option, Some, None, codes, if◌then◌else◌}
+use Rattle.std.specs.Prelude.{◌≡◌, ◌⊎◌, ℕ, Contains, List, [], ◌∷◌, Option, Some, None, codes, if◌then◌else◌}
 use Rattle.pt_case.specs.Ending.{is_failure}
 use Rattle.pt_case.specs.declared.record.Record.{Record}
 use Rattle.pt_choice.specs.Faults.{Rose}
@@ -49,8 +49,13 @@ status_of (Refused refusal) = refusal_status refusal
 status_of (Reported finding) = if has_passed finding.verdict then 0 else 1
 status_of (Replayed item rec) = if is_failure rec.ending then 1 else 0
 
--- the message was written whole, with its status
+-- a call ends with one of these statuses, and no other
+abbrev pub IsStatus : ℕ → Type 0
+IsStatus status = Contains (0 ∷ 1 ∷ 2 ∷ 4 ∷ 5 ∷ 9 ∷ 10 ∷ 11 ∷ []) status
+
+-- the message was written whole, with its status, and no call of the sink failed
 pub record TellsAll (message : Message) (text : List ℕ) (finish : Finish) (old new : Written) : Type 0 where
+  pub quiet : new.faults ≡ old.faults
   pub status : finish.status ≡ status_of message
   pub replayed : finish.replayed ≡ replayed_of message
   pub written : Appends old.bytes text new.bytes

@@ -1,5 +1,5 @@
 -- What a suite's text asks for. A suite is one line as yet.
-use Rattle.std.specs.Prelude.{◌≡◌, ◌⊎◌, ℕ, ◌≤◌, IsTrue, List, [], ◌∷◌, ◌++◌, codes, Some, slice_get}
+use Rattle.std.specs.Prelude.{◌≡◌, ◌≢◌, ◌⊎◌, ℕ, ◌≤◌, IsTrue, List, [], ◌∷◌, ◌++◌, codes, Some, slice_get, AllPairs}
 use Rattle.std.specs.Fmt.{decimal}
 use Rattle.pt_val.specs.Name.{is_name}
 
@@ -17,6 +17,10 @@ pub record IsSuite (text name : List ℕ) (runs : ℕ) : Type 0 where
   pub rest : List ℕ
   pub is_text : text ≡ codes "check " ++ (name ++ rest)
   pub is_rest : IsRest rest runs
+
+-- no two of the checks have one name, so that the check that a suite names is one
+abbrev pub HaveOwnNames : {C : Type 0} → (C → List ℕ) → List C → Type 0
+HaveOwnNames name checks = AllPairs (λ one other. name one ≢ name other) checks
 
 -- the suite names this one of the checks, with a number of runs
 pub record Names {C : Type 0} (name : C → List ℕ) (checks : List C) (text : List ℕ) (check : C) (runs : ℕ) : Type 0 where

@@ -1,10 +1,12 @@
-ghost use Rattle.std.specs.Prelude.{◌≡◌, ◌<◌, ◌≤◌, IfOk, OnErr};
-ghost use Rattle.pt_choice.specs.Faults.{Rose};
+ghost use Rattle.std.specs.Prelude.{◌≡◌, ◌≤◌, ◌⊎◌, IfOk, OnOk, OnErr};
+ghost use Rattle.pt_choice.specs.Faults.{next_count};
+ghost use Rattle.pt_io.specs.Files.{IsSame};
+ghost use Rattle.pt_run.specs.Call.{Answers, call, outside};
 ghost use Rattle.pt_run.specs.Command.{asked_by};
-ghost use Rattle.pt_run.specs.Due.{IsAnswer, IsDue, IsRunnable, SaysOf};
-ghost use Rattle.pt_run.specs.Message.{Tells};
+ghost use Rattle.pt_run.specs.Due.{IsDue, SaysOf};
+ghost use Rattle.pt_run.specs.Message.{IsStatus};
+ghost use Rattle.pt_run.specs.Suite.{HaveOwnNames};
 ghost use Rattle.pt_run.specs.Words.{Asked, Asks, AskNothing};
-ghost use Rattle.pt_run.specs.declared.message.Message.{Message};
 
 use crate::command::{Command, read_command};
 use crate::outcome::examine;
@@ -18,8 +20,7 @@ use std::alloc::Global;
 
 /// All that the program does: reads the words, does what they ask for, and says what came of it.
 ///
-/// Want of memory may come at any time, and then nothing was written. Where two checks have one name, the first
-/// is meant.
+/// Want of memory may come at any time, and then nothing was written.
 pub fn top<F: Files, K: Sink, C: Check>(
     alloc: Global,
     words: &[String],
@@ -27,22 +28,28 @@ pub fn top<F: Files, K: Sink, C: Check>(
     sink: &mut K,
     checks: &[C],
 ) -> Result<Finish, NoMemory>
+    requires { HaveOwnNames C.name checks.now }
+
     // What is due is written whole, with its status, or a first part of it, with status 5.
-    ensures told { IfOk result (λ finish. (message : Message)
-        × IsAnswer C.name C.step checks.now (F.shows files.old) (F.shows files.new) words.now message
-        × Tells message finish (K.shows sink.old) (K.shows sink.new)) }
+    ensures told { IfOk result (λ finish. Answers C.name C.step checks.now (call words.now
+        (outside (F.shows files.old) (K.shows sink.old)) (outside (F.shows files.new) (K.shows sink.new)) finish)) }
 
-    // Where the words ask for nothing, the files are as they were.
+    ensures status { IfOk result (λ finish. IsStatus finish.status) }
+
+    // After want of memory the sink is as it was, and no call of the files has failed.
+    ensures nothing { OnErr result (sink.new ≡ sink.old) }
+    ensures quiet { OnErr result ((F.shows files.new).faults ≡ (F.shows files.old).faults) }
+
+    // The files are the same ones, and no count falls.
+    ensures same { IsSame (F.shows files.old) (F.shows files.new) }
+    ensures later { (K.shows sink.old).faults ≤ (K.shows sink.new).faults }
+
+    // Where the words ask for nothing, the files are as they were. Else one file is chosen, once; after want of memory
+    // perhaps none.
     ensures untouched { AskNothing words.now → files.new ≡ files.old }
-
-    // Where the words ask for what can be done, and no fault is counted, it is done.
-    ensures complete { IfOk result (λ finish. (asked : Asked) → Asks words.now asked
-        → IsRunnable C.name checks.now (F.shows files.old) asked
-        → (Rose (F.shows files.old).faults (F.shows files.new).faults → ⊥)
-        → (Rose (K.shows sink.old).faults (K.shows sink.new).faults → ⊥)
-        → finish.status < 2) }
-
-    ensures nothing { OnErr result ((K.shows sink.new).bytes ≡ (K.shows sink.old).bytes) }
+    ensures once { OnOk result ((asked : Asked) → Asks words.now asked → (F.shows files.new).chosen ≡ next_count (F.shows files.old).chosen) }
+    ensures at_most { OnErr result (((F.shows files.new).chosen ≡ (F.shows files.old).chosen)
+        ⊎ ((F.shows files.new).chosen ≡ next_count (F.shows files.old).chosen)) }
 {
     let message = match read_command(alloc, words)? {
         Some(command) => answer(alloc, command, files, checks)?,
@@ -58,7 +65,10 @@ fn answer<F: Files, C: Check>(
     files: &mut F,
     checks: &[C],
 ) -> Result<Message, NoMemory>
-    ensures { IfOk result (IsDue C.name C.step checks.now (F.shows files.old) (F.shows files.new) (asked_by command.entry)) }
+    ensures due { IfOk result (IsDue C.name C.step checks.now (F.shows files.old) (F.shows files.new) (asked_by command.entry)) }
+    ensures quiet { OnErr result ((F.shows files.new).faults ≡ (F.shows files.old).faults) }
+    ensures same { IsSame (F.shows files.old) (F.shows files.new) }
+    ensures once { (F.shows files.new).chosen ≡ next_count (F.shows files.old).chosen }
 {
     let text = match read_whole(alloc, files, command.suite()) {
         Ok(text) => text,

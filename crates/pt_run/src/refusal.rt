@@ -8,7 +8,7 @@ pub enum Refusal {
     Usage,
     /// The suite's file was not read.
     Unreadable,
-    /// The suite's file has more than `pt_io::MAX_BYTES` bytes.
+    /// The suite's file has more than 1,048,576 bytes.
     TooLarge,
     /// The suite is of no form that is built.
     NotBuilt,

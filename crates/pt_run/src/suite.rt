@@ -20,7 +20,7 @@ pub struct Item<'a, C> {
     pub runs: u32,
 }
 
-/// The item of the suite. Where it names several of the checks, the first is meant.
+/// The item of the suite, if it names one of the checks.
 pub fn named_item<'a, C: Check>(
     alloc: Global,
     text: &[u8],

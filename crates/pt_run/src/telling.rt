@@ -1,7 +1,8 @@
-ghost use Rattle.std.specs.Prelude.{◌≡◌, ◌++◌, IfOk, OnOk, OnErr};
+ghost use Rattle.std.specs.Prelude.{◌≡◌, ◌++◌, ◌≤◌, IfOk, OnOk, OnErr, IsOk};
 ghost use Rattle.pt_choice.specs.Faults.{Rose};
 ghost use Rattle.pt_io.specs.Sink.{Appends, AppendsPart};
 ghost use Rattle.pt_run.specs.Message.{Tells};
+ghost use Rattle.pt_run.specs.declared.refusal.Refusal.{Refusal};
 
 use crate::finding::Findings;
 use crate::report::{block, replay_lines, tail};
@@ -15,10 +16,13 @@ use std::alloc::Global;
 // The status where the output failed.
 const FAILED_WRITE: u8 = 5;
 
-/// Writes what there is to say. Where the output fails, the status is 5; where memory runs out, nothing was written.
+/// Writes what there is to say. Where the output fails, the status is 5; where memory runs out, nothing was written. A
+/// refusal is told also then.
 pub fn tell<K: Sink>(alloc: Global, sink: &mut K, message: Message) -> Result<Finish, NoMemory>
     ensures told { IfOk result (λ finish. Tells message finish (K.shows sink.old) (K.shows sink.new)) }
-    ensures nothing { OnErr result ((K.shows sink.new).bytes ≡ (K.shows sink.old).bytes) }
+    ensures refused { (refusal : Refusal) → message ≡ Message.Refused refusal → IsOk result }
+    ensures nothing { OnErr result (sink.new ≡ sink.old) }
+    ensures later { (K.shows sink.old).faults ≤ (K.shows sink.new).faults }
 {
     match message {
         Message::Refused(refusal) => Ok(refuse(alloc, sink, refusal)),
@@ -28,7 +32,8 @@ pub fn tell<K: Sink>(alloc: Global, sink: &mut K, message: Message) -> Result<Fi
 }
 
 fn refuse<K: Sink>(alloc: Global, sink: &mut K, refusal: Refusal) -> Finish
-    ensures { Tells (Message.Refused refusal) result (K.shows sink.old) (K.shows sink.new) }
+    ensures told { Tells (Message.Refused refusal) result (K.shows sink.old) (K.shows sink.new) }
+    ensures later { (K.shows sink.old).faults ≤ (K.shows sink.new).faults }
 {
     let status = match write_all(sink, refusal.line()) {
         Ok(()) => refusal.status(),
@@ -44,7 +49,8 @@ fn refuse<K: Sink>(alloc: Global, sink: &mut K, refusal: Refusal) -> Finish
 // Writes the block of the finding, and then the tail.
 fn report<K: Sink>(alloc: Global, sink: &mut K, finding: Finding) -> Result<Finish, NoMemory>
     ensures told { IfOk result (λ finish. Tells (Message.Reported finding) finish (K.shows sink.old) (K.shows sink.new)) }
-    ensures nothing { OnErr result ((K.shows sink.new).bytes ≡ (K.shows sink.old).bytes) }
+    ensures nothing { OnErr result (sink.new ≡ sink.old) }
+    ensures later { (K.shows sink.old).faults ≤ (K.shows sink.new).faults }
 {
     let status = if finding.verdict.has_passed() { 0 } else { 1 };
     let block = block(alloc, &finding)?;
@@ -70,7 +76,9 @@ fn report<K: Sink>(alloc: Global, sink: &mut K, finding: Finding) -> Result<Fini
 fn write_both<K: Sink>(sink: &mut K, first: &[u8], second: &[u8]) -> Result<(), IoFailed>
     ensures all { OnOk result (Appends (K.shows sink.old).bytes (first.now ++ second.now) (K.shows sink.new).bytes) }
     ensures part { OnErr result (AppendsPart (K.shows sink.old).bytes (first.now ++ second.now) (K.shows sink.new).bytes) }
+    ensures quiet { OnOk result ((K.shows sink.new).faults ≡ (K.shows sink.old).faults) }
     ensures cause { OnErr result (Rose (K.shows sink.old).faults (K.shows sink.new).faults) }
+    ensures later { (K.shows sink.old).faults ≤ (K.shows sink.new).faults }
 {
     let Ok(()) = write_all(sink, first) else {
         return Err(IoFailed);
@@ -89,7 +97,8 @@ fn show_replay<K: Sink>(
     rec: Record,
 ) -> Result<Finish, NoMemory>
     ensures told { IfOk result (λ finish. Tells (Message.Replayed item rec) finish (K.shows sink.old) (K.shows sink.new)) }
-    ensures nothing { OnErr result ((K.shows sink.new).bytes ≡ (K.shows sink.old).bytes) }
+    ensures nothing { OnErr result (sink.new ≡ sink.old) }
+    ensures later { (K.shows sink.old).faults ≤ (K.shows sink.new).faults }
 {
     let text = replay_lines(alloc, &item, &rec)?;
     let findings = Findings::empty(alloc);

@@ -21,7 +21,7 @@ impl Model for Chars {
 }
 
 impl Chars {
-    /// No characters. Takes no memory.
+    /// No characters.
     pub fn empty(alloc: Global) -> Chars
         ensures { result ≡ [] }
     {
@@ -61,24 +61,6 @@ impl Chars {
         ensures err { OnErr result (self.new ≡ self.old) }
     {
         self.items.push(item)?;
-        Ok(())
-    }
-}
-
-#[cfg(test)]
-mod tests {
-    use super::*;
-    use std::test::Fail;
-
-    #[test]
-    fn characters_are_kept_in_order(rt: HostRuntime) -> Result<(), Fail> {
-        let mut chars = Chars::empty(rt.alloc());
-        assert_eq!(rt; chars.len(), 0);
-        chars.push('a')?;
-        chars.push('\u{10ffff}')?;
-        let copy = chars.copy()?;
-        assert_eq!(rt; copy.len(), 2);
-        assert!(rt; copy.as_slice() == ['a', '\u{10ffff}'].as_slice());
         Ok(())
     }
 }

@@ -7,8 +7,6 @@ mod name;
 mod names;
 mod place;
 mod printing;
-#[cfg(test)]
-mod samples;
 mod sharing;
 mod sizing;
 mod ty;

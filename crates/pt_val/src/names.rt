@@ -20,7 +20,7 @@ impl Model for Names {
 }
 
 impl Names {
-    /// No names. Takes no memory.
+    /// No names.
     pub fn empty(alloc: Global) -> Names
         ensures { result ≡ [] }
     {

@@ -145,6 +145,3 @@ fn write(text: &mut Octets, bytes: &[u8]) -> Result<(), NoMemory>
     }
     Ok(())
 }
-
-#[cfg(test)]
-mod tests;

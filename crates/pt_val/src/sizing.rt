@@ -32,33 +32,3 @@ fn total_size(values: &[Val]) -> u64
     }
     total
 }
-
-#[cfg(test)]
-mod tests {
-    use super::*;
-    use crate::samples::{bytes, list, nested, node, text, tuple};
-    use std::test::Fail;
-
-    #[test]
-    fn a_size_counts_what_a_value_holds(rt: HostRuntime) -> Result<(), Fail> {
-        let alloc = rt.alloc();
-        assert_eq!(rt; size(&Val::Int(-9)), 1);
-        assert_eq!(rt; size(&Val::Bool(true)), 1);
-        assert_eq!(rt; size(&text(alloc, &['a', '"', 'b'])?), 4);
-        assert_eq!(rt; size(&bytes(alloc, &[0, 1])?), 3);
-        assert_eq!(rt; size(&list(alloc, vec![in alloc]?)?), 1);
-        assert_eq!(rt;
-            size(&tuple(
-                alloc,
-                vec![in alloc; Val::Int(1), list(alloc, vec![in alloc; Val::Int(2)]?)?]?
-            )?),
-            4
-        );
-        assert_eq!(rt;
-            size(&node(alloc, 5, vec![in alloc; node(alloc, 3, vec![in alloc]?)?]?)?),
-            2
-        );
-        assert_eq!(rt; size(&nested(alloc, 64)?), 65);
-        Ok(())
-    }
-}

@@ -46,20 +46,3 @@ fn copy_all(values: &Vals) -> Result<Vals, NoMemory>
     }
     Ok(copies)
 }
-
-#[cfg(test)]
-mod tests {
-    use super::*;
-    use std::test::Fail;
-
-    fn shared<T: Send + Sync>(_: &T) {}
-
-    #[test]
-    fn values_and_types_pass_between_threads(rt: HostRuntime) -> Result<(), Fail> {
-        shared(&Val::Text(Chars::empty(rt.alloc())));
-        shared(&Chars::empty(rt.alloc()));
-        shared(&Vals::empty(rt.alloc()));
-        shared(&crate::Ty::Tuple(crate::Tys::empty(rt.alloc())));
-        Ok(())
-    }
-}

@@ -16,7 +16,7 @@ pub(crate) struct Gathered {
 }
 
 impl Gathered {
-    /// No choices. Takes no memory.
+    /// No choices.
     pub(crate) fn empty(alloc: Global) -> Gathered
         ensures { IsGathered [] result }
     {

@@ -22,6 +22,3 @@ pub use fault::WireFault;
 pub use laws::{one_list, one_place, one_spelling, read_again, short_text};
 pub use printing::{MAX_PRINTED, print_choices};
 pub use reading::read_choices;
-
-#[cfg(test)]
-mod tests;

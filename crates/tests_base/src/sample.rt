@@ -1,6 +1,6 @@
-//! Choices as tables write them.
+//! Choices and kinds as tables write them.
 
-use pt_choice::{Choice, Choices, NoMemory, Octets};
+use pt_choice::{Choice, Choices, Kind, NoMemory, Octets, Shape};
 use std::alloc::Global;
 
 /// A choice as plain data.
@@ -27,4 +27,14 @@ pub fn choices_of(alloc: Global, samples: &[Sample]) -> Result<Choices, NoMemory
         choices.push(made(alloc, *sample)?)?;
     }
     Ok(choices)
+}
+
+/// The kind of this shape, if it is within its limits.
+pub fn kind_of(shape: Shape) -> Option<Kind> {
+    match shape {
+        Shape::Bool { chance } => Kind::of_bool(chance),
+        Shape::Int { lo, hi } => Kind::of_int(lo, hi),
+        Shape::Bytes { min, max } => Kind::of_bytes(min, max),
+        Shape::Text { min, max, size } => Kind::of_text(min, max, size),
+    }
 }

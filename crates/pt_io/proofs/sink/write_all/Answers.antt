@@ -1,4 +1,4 @@
-use Rattle.std.proofs.Common.{◌≡◌, ◌-◌, length, take, drop, arith, length-drop}
+use Rattle.std.proofs.Common.{◌≡◌, ◌∙◌, ◌-◌, length, take, drop, arith, length-drop}
 use Rattle.std.proofs.lemmas.Grind.{common_steps}
 use Rattle.pt_io.proofs.Appended.{Appends-take}
 use Rattle.pt_io.proofs.sink.write_all.Goals as goal
@@ -12,5 +12,5 @@ loop-done-preserved g c =
     record {
       within = omega (arith, wrote.within, length-drop done from);
       written = Appends-take _ _ _ _ _ _ c.loop-done.invariant.written wrote.written;
-      later = omega (arith, wrote.later);
+      quiet = wrote.quiet ∙ c.loop-done.invariant.quiet;
     }

@@ -1,4 +1,4 @@
-use Rattle.std.proofs.Common.{length, ◌-◌, ◌≤◌, take}
+use Rattle.std.proofs.Common.{◌≡◌, length, ◌-◌, ◌≤◌, take}
 use Rattle.pt_io.specs.Sink.{Appends}
 use Rattle.pt_io.proofs.sink.write_all.Given as goal
 
@@ -9,7 +9,7 @@ invariant-loop-done g l =
     record {
       within : l.done ≤ length l.from;
       written : Appends (shows l.fn.sink).bytes (take l.done l.from) (shows l.sink).bytes;
-      later : (shows l.fn.sink).faults ≤ (shows l.sink).faults;
+      quiet : (shows l.sink).faults ≡ (shows l.fn.sink).faults;
     }
 
 abbrev pub decreases-loop-done : goal.decreases-loop-done

@@ -28,6 +28,7 @@ returns-clause-told g c =
       text = c.in_ok-block.block ++ c.in_ok-tail.tail;
       is_text = one_report c.args.finding c.in_ok-block.block c.in_ok-tail.tail c.in_ok-block.ensures last;
       told = inl (record {
+        quiet = search rules;
         status = search rules;
         replayed = refl;
         written = search rules;

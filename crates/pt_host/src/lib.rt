@@ -1,0 +1,14 @@
+//! The machine as the tester sees it, and the one call that the `main` of a tester makes.
+#![tactic(auto)]
+
+mod command_line;
+mod handed;
+mod outcome;
+mod real_files;
+mod std_sink;
+mod testing;
+
+pub use handed::Handed;
+pub use real_files::RealFiles;
+pub use std_sink::StdSink;
+pub use testing::{OUT_OF_MEMORY, tester};

@@ -1,0 +1,50 @@
+ghost use Rattle.std.specs.Prelude.{◌≡◌, ◌⊎◌, IfOk, OnErr};
+ghost use Rattle.std.specs.Process.{exit_status};
+ghost use Rattle.pt_run.specs.Message.{IsStatus};
+ghost use Rattle.pt_run.specs.Suite.{HaveOwnNames};
+
+use crate::command_line::words;
+use crate::{RealFiles, StdSink};
+use pt_case::Check;
+use pt_choice::NoMemory;
+use pt_run::{Finish, top};
+use std::env::Env;
+use std::io;
+use std::process::ExitCode;
+use std::rt::Files;
+
+/// The exit status where memory ran out.
+pub const OUT_OF_MEMORY: u8 = 7;
+
+/// All that a tester does with these checks, no two of which have one name: does what the words of its command line
+/// ask for, with the files of the machine and its standard output, and answers the exit status.
+pub fn tester<R: Env + Files + Print + AllocGlobal, C: Check>(rt: &R, checks: &[C]) -> ExitCode
+    requires { HaveOwnNames C.name checks.now }
+    ensures { IsStatus (exit_status result) ⊎ (exit_status result ≡ 7) }
+{
+    exit_code(over_the_machine(rt, checks))
+}
+
+fn over_the_machine<R: Env + Files + Print + AllocGlobal, C: Check>(
+    rt: &R,
+    checks: &[C],
+) -> Result<Finish, NoMemory>
+    requires { HaveOwnNames C.name checks.now }
+    ensures { IfOk result (λ finish. IsStatus finish.status) }
+{
+    let words = words(rt)?;
+    let mut files = RealFiles::of(rt);
+    let mut sink = StdSink::of(io::writer(rt));
+    top(rt.alloc(), words.as_slice(), &mut files, &mut sink, checks)
+}
+
+// The status of what was done, or the one that says that memory ran out.
+fn exit_code(outcome: Result<Finish, NoMemory>) -> ExitCode
+    ensures finished { IfOk outcome (λ finish. exit_status result ≡ finish.status) }
+    ensures starved { OnErr outcome (exit_status result ≡ 7) }
+{
+    match outcome {
+        Ok(finish) => ExitCode::from(finish.status),
+        Err(NoMemory) => ExitCode::from(OUT_OF_MEMORY),
+    }
+}

@@ -1,0 +1,12 @@
+pub mod Plan
+pub mod Asked
+pub mod Halt
+pub mod Stop
+pub mod Came
+pub mod Open
+pub mod Kept
+pub mod Mark
+pub mod Stands
+pub mod Says
+pub mod Every
+pub mod Ended
