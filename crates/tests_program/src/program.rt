@@ -22,17 +22,29 @@ struct Row {
     status: u8,
 }
 
-// Whether the call does so.
-fn is_shown<C: Check>(alloc: Global, check: C, row: Row) -> Result<bool, NoMemory> {
+// Whether the call with this one check does so.
+fn is_shown<C: Check>(alloc: Global, checks: &[C], row: Row) -> Result<bool, NoMemory>
+    requires { length checks.now ≤ 1 }
+{
     let words = words(alloc, row.words)?;
     let mut files = MemoryFiles::of(files(alloc, row.suite)?, calls(alloc, row.read)?);
     let mut sink = MemorySink::of(alloc, calls(alloc, row.write)?);
-    let finish = top(alloc, words.as_slice(), &mut files, &mut sink, &[check])?;
+    let finish = top(alloc, words.as_slice(), &mut files, &mut sink, checks)?;
     Ok(
         sink.written() == row.output.as_bytes()
             && finish.status == row.status
             && sink.starved() == 0,
     )
+}
+
+fn is_ended(alloc: Global, way: Way, row: Row) -> Result<bool, NoMemory> {
+    let check = Ends::of(alloc, way)?;
+    is_shown(alloc, &[check], row)
+}
+
+fn is_noted(alloc: Global, row: Row) -> Result<bool, NoMemory> {
+    let check = Noting::of(alloc)?;
+    is_shown(alloc, &[check], row)
 }
 
 fn words(alloc: Global, of: &[&str]) -> Result<Vec<String>, NoMemory> {
@@ -141,7 +153,7 @@ fn a_check_is_run_or_replayed(rt: HostRuntime) -> Result<(), Fail> {
             ),
         ),
     ] {
-        let done = Ends::of(alloc, way).and_then(|check| is_shown(alloc, check, row));
+        let done = is_ended(alloc, way, row);
         assert_eq!(rt; done, Ok(true), "{way:?} {row:?}");
     }
     Ok(())
@@ -170,7 +182,7 @@ fn notes_are_shown(rt: HostRuntime) -> Result<(), Fail> {
             0,
         ),
     ] {
-        let done = Noting::of(alloc).and_then(|check| is_shown(alloc, check, row));
+        let done = is_noted(alloc, row);
         assert_eq!(rt; done, Ok(true), "{row:?}");
     }
     Ok(())
@@ -205,7 +217,7 @@ fn a_failure_outside_has_its_status(rt: HostRuntime) -> Result<(), Fail> {
             output,
             status,
         };
-        let done = Ends::of(alloc, Way::Passes).and_then(|check| is_shown(alloc, check, row));
+        let done = is_ended(alloc, Way::Passes, row);
         assert_eq!(rt; done, Ok(true), "{row:?}");
     }
     Ok(())

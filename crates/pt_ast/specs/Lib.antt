@@ -1,0 +1,12 @@
+pub mod Types
+pub mod Trees
+pub mod Plain
+pub mod Levels
+pub mod Bounds
+pub mod Numbers
+pub mod Names
+pub mod Typing
+pub mod Suites
+pub mod Sound
+pub mod Values
+pub mod Laws

@@ -1,0 +1,4 @@
+//! Trees from their parts.
+
+mod exprs;
+mod strats;
