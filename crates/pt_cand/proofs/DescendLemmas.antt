@@ -1,9 +1,10 @@
 -- The spans below an outer one, seen from the spans behind it.
-use Rattle.std.proofs.Common.{◌≡◌, ◌≢◌, ◌<◌, ◌≤◌, ℕ, zero, suc, ◌+◌, Bool, true, false, cond, ◌&&◌, ◌||◌, nat_eq, Option, Some, None, List, [], ◌∷◌, ◌++◌, map, length, take, drop, get_or, sym, ap, ◌∙◌, refl, subst, arith, inl, inr, add-zero, add-one}
+use Rattle.std.proofs.Common.{◌≡◌, ◌≢◌, ◌⊎◌, ◌<◌, ◌≤◌, ℕ, zero, suc, ◌+◌, ◌-◌, Bool, true, false, cond, ◌&&◌, ◌||◌, nat_eq, Option, Some, None, List, [], ◌∷◌, ◌++◌, map, length, take, drop, get_or, sym, ap, ◌∙◌, refl, subst, arith, inl, inr, add-zero, add-one}
 use Rattle.std.specs.Prelude.{if◌then◌else◌}
 use Rattle.std.specs.List.{filter, list_any}
-use Rattle.std.proofs.lemmas.Bool.{eq-eqb, ne_eqb}
-use Rattle.std.proofs.lemmas.List.{take_more, drop_more, drop_all, length-take-le}
+use Rattle.std.specs.Option.{unwrap_or, option_map}
+use Rattle.std.proofs.lemmas.Bool.{eq-eqb, ne_eqb, cases_eq}
+use Rattle.std.proofs.lemmas.List.{take_more, drop_more, drop_all, length-take-le, length-drop, get_or-drop}
 use Rattle.std.proofs.lemmas.List.Folds.{list_any-append}
 use Rattle.pt_choice.specs.declared.choice.Choice.{Choice}
 use Rattle.pt_case.specs.declared.span.Span.{Span}
@@ -174,3 +175,38 @@ module _ (choices : List Choice) (earlier : List Span) (outer : Span) (later : L
   descend-end j past =
       ap (λ spans. map (descended choices outer) (filter (may_replace outer) (below (known_after (length earlier ∷ []) (length earlier + 1) (take j later)) (length earlier + 1 + j) spans)))
           (drop_all j later past)
+
+-- the parents of a span, one step up
+module _ (outer : ℕ) (spans : List Span) (inner : ℕ) (d : Span) (within : outer + 1 + inner < length spans) where
+  abbrev behind : List Span
+  behind = drop (outer + 1) spans
+
+  inside : inner ≤ length behind
+  inside = let long = length-drop (outer + 1) spans in omega (arith, within, long)
+
+  pub at_most : (k : ℕ) → k ≤ outer → nat_eq k outer ≡ list_any (nat_eq k) (known_at outer behind d inner)
+  at_most k low = elim (cases_eq k outer) [
+    | inl same ↦ eq-eqb k outer same ∙ sym (subst (λ n. list_any (nat_eq n) (known_at outer behind d inner) ≡ true) (sym same) (knows-outer outer behind d inner inside))
+    | inr other ↦
+        let less : k < outer = omega (arith, low, other) in
+        ne_eqb k outer other ∙ sym (knows-low outer behind d inner k inside less)
+  ]
+
+  pub one_up : (k : ℕ) → outer < k → k < outer + 1 + inner → ((n : ℕ) → (get_or spans k d).parent ≡ Some n → n < k) →
+      list_any (nat_eq k) (known_at outer behind d inner) ≡ is_among (known_at outer behind d inner) (get_or spans k d).parent
+  one_up k above reached earlier =
+      let place : outer + 1 + (k - (outer + 1)) ≡ k = omega (arith, above) in
+      let low : k - (outer + 1) < inner = omega (arith, above, reached) in
+      let at_k : get_or behind (k - (outer + 1)) d ≡ get_or spans k d = get_or-drop (outer + 1) spans (k - (outer + 1)) d ∙ ap (λ n. get_or spans n d) place in
+      let before : (n : ℕ) → (get_or behind (k - (outer + 1)) d).parent ≡ Some n → n < outer + 1 + (k - (outer + 1)) =
+          (λ n is. let less = earlier n (ap (λ span. span.parent) (sym at_k) ∙ is) in omega (arith, less, place)) in
+      ap (λ n. list_any (nat_eq n) (known_at outer behind d inner)) (sym place)
+      ∙ knows-by_parent outer behind d (k - (outer + 1)) inner low inside before
+      ∙ ap (λ span. is_among (known_at outer behind d inner) span.parent) at_k
+
+-- a parent's number is less than before
+pub parent-less : (parent new : Option ℕ) (k : ℕ) → parent ≡ Some k → ((n : ℕ) → new ≡ Some n → n < k) →
+    unwrap_or (option_map (λ n. suc n) new) 0 < unwrap_or (option_map (λ n. suc n) parent) 0
+parent-less parent None k is earlier = subst (λ p. 0 < unwrap_or (option_map (λ n. suc n) p) 0) (sym is) (omega arith)
+parent-less parent (Some n) k is earlier =
+    let less = earlier n refl in subst (λ p. suc n < unwrap_or (option_map (λ n. suc n) p) 0) (sym is) (omega (arith, less))

@@ -2,7 +2,7 @@
 use Rattle.std.proofs.Common.{◌≡◌, ◌<◌, ◌≤◌, ℕ, zero, suc, ◌+◌, ◌⊎◌, inl, inr, nat_eq, ◌&&◌, Bool, true, false, cond, ℤ, Option, Some, None, List, [], ◌∷◌, ◌++◌, map, length, take, drop, get_or, sym, ap, ◌∙◌, refl, subst, arith, add-zero, unsigned_abs, nat_lt}
 use Rattle.std.specs.Prelude.{if◌then◌else◌}
 use Rattle.std.specs.List.{find, filter}
-use Rattle.std.specs.Cmp.{int_eq}
+use Rattle.std.specs.Ordering.{int_eq}
 use Rattle.std.specs.Cmp.Lexicographic.{pointwise}
 use Rattle.std.proofs.lemmas.List.{length-take-le, length-drop, get_or-drop, get_or_default}
 use Rattle.pt_choice.specs.declared.choice.Choice.{Choice}
@@ -133,7 +133,7 @@ module _ (best : Record) (at : Cursor) where
     flag-none : (value : Bool) (n : ℕ) → (value ≡ false) ⊎ (1 ≤ n) → lower_after (choice.Bool value) n ≡ []
     flag-none false zero end = refl
     flag-none false (suc n) end = refl
-    flag-none true zero end = elim end [ inl no ↦ absurd cc | inr later ↦ absurd (omega (arith, later)) ]
+    flag-none true zero end = elim end [ inl is ↦ absurd cc | inr later ↦ absurd (omega (arith, later)) ]
     flag-none true (suc zero) end = refl
     flag-none true (suc (suc n)) end = refl
 
@@ -194,7 +194,7 @@ module _ (best : Record) (at : Cursor) where
         left_at-none (less_after number) (less_after 0) (less_without (regions best.spans)) (λ front given back. refl) best.choices at.place d within is
 
     pub less-other : ((value : ℤ) → given ≡ choice.Int value → ⊥) → left_of pass.LowerDelete best at ≡ left_of pass.LowerDelete best (start_of (at.place + 1))
-    less-other no = less-none at.inner (less-nothing (regions_after (take at.inner best.spans) (drop at.inner best.spans)) front given back no)
+    less-other never = less-none at.inner (less-nothing (regions_after (take at.inner best.spans) (drop at.inner best.spans)) front given back never)
 
     module _ (value : ℤ) (is : given ≡ choice.Int value) where
       pub less-at_zero : nat_lt 0 (unsigned_abs value) ≡ false → left_of pass.LowerDelete best at ≡ left_of pass.LowerDelete best (start_of (at.place + 1))

@@ -16,10 +16,10 @@ use Rattle.pt_cand.proofs.RegionLemmas.{is_own, regions-own, regions-passed, reg
 -- only an integer that is not zero is made less
 pub less-nothing : (spans : List Span) (front : List Choice) (given : Choice) (back : List Choice) → ((value : ℤ) → given ≡ choice.Int value → ⊥) →
     less_without spans front given back ≡ []
-less-nothing spans front (choice.Int value) back no = absurd (no value refl)
-less-nothing spans front (choice.Bool value) back no = refl
-less-nothing spans front (choice.Bytes octets) back no = refl
-less-nothing spans front (choice.Text octets) back no = refl
+less-nothing spans front (choice.Int value) back never = absurd (never value refl)
+less-nothing spans front (choice.Bool value) back never = refl
+less-nothing spans front (choice.Bytes octets) back never = refl
+less-nothing spans front (choice.Text octets) back never = refl
 
 pub less-zero : (spans : List Span) (front : List Choice) (value : ℤ) (back : List Choice) → nat_lt 0 (unsigned_abs value) ≡ false →
     less_without spans front (choice.Int value) back ≡ []

@@ -7,3 +7,5 @@ pub mod LessLemmas
 pub mod OctetLemmas
 pub mod SwapLemmas
 pub mod FindLemmas
+pub mod LowerLemmas
+pub mod WalkLemmas

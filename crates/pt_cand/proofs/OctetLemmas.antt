@@ -11,7 +11,8 @@ way_at front back place way = get_or (lower_place (front ++ take place back) (ge
 four : (front back : List ℕ) (place way : ℕ) → place < length back → way < 4 → get_or (at_each lower_place front back) (4 * place + way) [] ≡ way_at front back place way
 four front [] place way within few = absurd (omega (arith, within))
 four front (first ∷ back) zero way within few =
-    ap (λ n. get_or (at_each lower_place front (first ∷ back)) n []) (omega arith : 4 * 0 + way ≡ way) ∙ by way few
+    let none : 4 * 0 + way ≡ way = omega arith in
+    ap (λ n. get_or (at_each lower_place front (first ∷ back)) n []) none ∙ by way few
   where
     by : (way : ℕ) → way < 4 → get_or (at_each lower_place front (first ∷ back)) way [] ≡ way_at front (first ∷ back) zero way
     by zero few = ap (λ f. f ++ back) (sym (append-nil front))
@@ -20,7 +21,8 @@ four front (first ∷ back) zero way within few =
     by (suc (suc (suc zero))) few = ap (λ f. f ++ (first - 1) ∷ back) (sym (append-nil front))
     by (suc (suc (suc (suc way)))) few = absurd (omega (arith, few))
 four front (first ∷ back) (suc place) way within few =
-    ap (λ n. get_or (at_each lower_place front (first ∷ back)) n []) (omega arith : 4 * suc place + way ≡ suc (suc (suc (suc (4 * place + way)))))
+    let more : 4 * suc place + way ≡ suc (suc (suc (suc (4 * place + way)))) = omega arith in
+    ap (λ n. get_or (at_each lower_place front (first ∷ back)) n []) more
     ∙ four (front ++ first ∷ []) back place way (omega (arith, within)) few
     ∙ ap (λ f. get_or (lower_place f (get_or back place 0) (drop (suc place) back)) way []) (append_assoc front (first ∷ []) (take place back))
 

@@ -1,6 +1,6 @@
 -- Two places that are moved together, one step on.
-use Rattle.std.proofs.Common.{◌≡◌, ◌<◌, ◌≤◌, ℕ, zero, suc, ◌+◌, ℤ, Option, Some, None, List, [], ◌∷◌, ◌++◌, map, length, take, drop, get_or, slice_get, sym, ap, ◌∙◌, refl, subst, arith, inl, inr}
-use Rattle.std.proofs.lemmas.List.{drop_more, drop_all, drop-take, drop-drop}
+use Rattle.std.proofs.Common.{◌≡◌, ◌⊎◌, ◌<◌, ◌≤◌, ℕ, zero, suc, ◌+◌, ◌-◌, ℤ, Option, Some, None, List, [], ◌∷◌, ◌++◌, map, length, take, drop, get_or, slice_get, sym, ap, ◌∙◌, refl, subst, arith, inl, inr}
+use Rattle.std.proofs.lemmas.List.{drop_more, drop_all, drop-take, drop-drop, length-drop, get_or-drop}
 use Rattle.std.proofs.lemmas.Option.{slice_get_within, get_or_from_slice_get, slice_get-get_or}
 use Rattle.std.proofs.lemmas.Bool.{cases_lt}
 use Rattle.pt_choice.specs.declared.choice.Choice.{Choice}
@@ -11,7 +11,7 @@ use Rattle.pt_cand.specs.Edit.{edited}
 use Rattle.pt_cand.specs.Moves.{in_places, with_later, of_integers, moves}
 use Rattle.pt_cand.specs.Left.{left_at, later_after, pairs_left}
 use Rattle.pt_cand.specs.Walk.{start_of}
-use Rattle.pt_cand.proofs.EachLemmas.{at_each-empty, at_each-end, left_at-start, left_at-end, left_at-none, left_at-found, left_at-same}
+use Rattle.pt_cand.proofs.EachLemmas.{left_at-empty, left_at-end, left_at-none, left_at-found, left_at-same}
 use Rattle.pt_cand.proofs.StartLemmas.{later-start}
 
 pub drop-get : {X : Type 0} (xs : List X) (n : ℕ) (x : X) → slice_get xs n ≡ Some x → drop n xs ≡ x ∷ drop (n + 1) xs
@@ -42,13 +42,17 @@ moves-second zero more = absurd (omega (arith, more))
 moves-second (suc zero) more = absurd (omega (arith, more))
 moves-second (suc (suc size)) more = refl
 
+pub drop-empty : {X : Type 0} (n : ℕ) → drop {A = X} n [] ≡ []
+drop-empty zero = refl
+drop-empty (suc n) = refl
+
 module _ (make : ℤ → ℤ → List (ℤ × ℤ)) where
   -- where the first choice is no integer, nothing is made
   nothing : (one : Choice) → ((value : ℤ) → one ≡ choice.Int value → ⊥) → (other : Choice) → of_integers make one other ≡ []
-  nothing (choice.Int value) no other = absurd (no value refl)
-  nothing (choice.Bool value) no other = refl
-  nothing (choice.Bytes octets) no other = refl
-  nothing (choice.Text octets) no other = refl
+  nothing (choice.Int value) never other = absurd (never value refl)
+  nothing (choice.Bool value) never other = refl
+  nothing (choice.Bytes octets) never other = refl
+  nothing (choice.Text octets) never other = refl
 
   abbrev at_one : List Choice → Choice → List Choice → Choice → List Choice → List (List Choice)
   at_one front one between other rest = map (in_places front between rest) (of_integers make one other)
@@ -57,14 +61,10 @@ module _ (make : ℤ → ℤ → List (ℤ × ℤ)) where
   rest_of slot front one between other rest = map (in_places front between rest) (drop slot (of_integers make one other))
 
   no_more : (one : Choice) → ((value : ℤ) → one ≡ choice.Int value → ⊥) → (inner slot : ℕ) (front back : List Choice) → later_after make inner slot front one back ≡ []
-  no_more one no inner slot front back =
+  no_more one never inner slot front back =
       left_at-empty (rest_of slot front one) (at_one front one)
-          (λ between other rest. ap (λ l. map (in_places front between rest) (drop slot l)) (nothing one no other) ∙ ap (map (in_places front between rest)) (drop-empty slot))
-          (λ between other rest. ap (map (in_places front between rest)) (nothing one no other)) (take inner back) (drop inner back)
-    where
-      drop-empty : (n : ℕ) → drop n ([] : List (ℤ × ℤ)) ≡ []
-      drop-empty zero = refl
-      drop-empty (suc n) = refl
+          (λ between other rest. ap (λ l. map (in_places front between rest) (drop slot l)) (nothing one never other) ∙ ap (map (in_places front between rest)) (drop-empty slot))
+          (λ between other rest. ap (map (in_places front between rest)) (nothing one never other)) (take inner back) (drop inner back)
 
   module _ (choices : List Choice) (place : ℕ) (d : Choice) (within : place < length choices) where
     abbrev back : List Choice
@@ -82,7 +82,7 @@ module _ (make : ℤ → ℤ → List (ℤ × ℤ)) where
 
     pub pairs-none : ((value : ℤ) → one ≡ choice.Int value → ⊥) → (inner slot : ℕ) →
         pairs_left make choices (cursor_at inner slot) ≡ pairs_left make choices (start_of (place + 1))
-    pairs-none no inner slot = none_left inner slot (no_more one no inner slot (take place choices) back)
+    pairs-none never inner slot = none_left inner slot (no_more one never inner slot (take place choices) back)
 
     pub pairs-end : (inner slot : ℕ) → length back ≤ inner → pairs_left make choices (cursor_at inner slot) ≡ pairs_left make choices (start_of (place + 1))
     pairs-end inner slot past = none_left inner slot (left_at-end (rest_of slot (take place choices) one) (at_one (take place choices) one) back inner past)
@@ -115,3 +115,44 @@ module _ (make : ℤ → ℤ → List (ℤ × ℤ)) where
         ap (λ between. take place choices ++ choice.Int pair.0 ∷ between ++ choice.Int pair.1 ∷ drop (inner + 1) back) (sym (drop-take (place + 1) inner choices))
         ∙ ap (λ rest. take place choices ++ choice.Int pair.0 ∷ drop (place + 1) (take (place + 1 + inner) choices) ++ choice.Int pair.1 ∷ rest)
             (drop-drop (inner + 1) (place + 1) choices ∙ ap (λ n. drop n choices) two)
+
+    abbrev second : ℕ → Choice
+    second inner = get_or choices (place + 1 + inner) d
+
+    inner-within : (inner : ℕ) → place + 1 + inner < length choices → inner < length back
+    inner-within inner low = let long = length-drop (place + 1) choices in omega (arith, low, long)
+
+    made-here : (inner : ℕ) (x y : ℤ) → one ≡ choice.Int x → second inner ≡ choice.Int y → of_integers make one (get_or back inner d) ≡ make x y
+    made-here inner x y is later =
+        ap (λ a. of_integers make a (get_or back inner d)) is ∙ ap (of_integers make (choice.Int x)) (get_or-drop (place + 1) choices inner d ∙ later)
+
+    pub pairs-here : (inner slot : ℕ) (x y : ℤ) (pair : ℤ × ℤ) → one ≡ choice.Int x → second inner ≡ choice.Int y → place + 1 + inner < length choices →
+        slice_get (make x y) slot ≡ Some pair →
+        pairs_left make choices (cursor_at inner slot) ≡ edited choices (edit.PutBoth place pair.0 (place + 1 + inner) pair.1) ∷ pairs_left make choices (cursor_at inner (slot + 1))
+    pairs-here inner slot x y pair is later low found =
+        let made = made-here inner x y is later in
+        pairs-found inner slot pair (inner-within inner low)
+            (ap (drop slot) made ∙ drop-get (make x y) slot pair found ∙ ap (λ l. pair ∷ drop (slot + 1) l) (sym made))
+        ∙ ap (λ list. list ∷ pairs_left make choices (cursor_at inner (slot + 1))) (pair-edited inner pair)
+
+    pub pairs-over : (inner slot : ℕ) (x y : ℤ) → one ≡ choice.Int x → second inner ≡ choice.Int y → place + 1 + inner < length choices →
+        slice_get (make x y) slot ≡ None → pairs_left make choices (cursor_at inner slot) ≡ pairs_left make choices (cursor_at (inner + 1) 0)
+    pairs-over inner slot x y is later low none =
+        pairs-passed inner slot (inner-within inner low) (ap (drop slot) (made-here inner x y is later) ∙ drop-none (make x y) slot (x, y) none)
+
+    nothing_later : (x : ℤ) (other : Choice) → ((value : ℤ) → other ≡ choice.Int value → ⊥) → of_integers make (choice.Int x) other ≡ []
+    nothing_later x (choice.Int value) never = absurd (never value refl)
+    nothing_later x (choice.Bool value) never = refl
+    nothing_later x (choice.Bytes octets) never = refl
+    nothing_later x (choice.Text octets) never = refl
+
+    pub pairs-other : (inner slot : ℕ) (x : ℤ) → one ≡ choice.Int x → ((value : ℤ) → second inner ≡ choice.Int value → ⊥) → place + 1 + inner < length choices →
+        pairs_left make choices (cursor_at inner slot) ≡ pairs_left make choices (cursor_at (inner + 1) 0)
+    pairs-other inner slot x is never low =
+        pairs-passed inner slot (inner-within inner low)
+            (ap (λ a. drop slot (of_integers make a (get_or back inner d))) is
+                ∙ ap (λ b. drop slot (of_integers make (choice.Int x) b)) (get_or-drop (place + 1) choices inner d)
+                ∙ ap (drop slot) (nothing_later x (second inner) never) ∙ drop-empty slot)
+
+    pub pairs-past : (inner slot : ℕ) → length choices - (place + 1) ≤ inner → pairs_left make choices (cursor_at inner slot) ≡ pairs_left make choices (start_of (place + 1))
+    pairs-past inner slot past = let long = length-drop (place + 1) choices in pairs-end inner slot (omega (arith, past, long))

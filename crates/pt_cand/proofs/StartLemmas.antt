@@ -11,7 +11,9 @@ use Rattle.pt_cand.specs.declared.cursor.Cursor.{Cursor}
 use Rattle.pt_cand.specs.declared.pass.Pass.{Pass}
 use Rattle.pt_cand.specs.declared.pass.Pass.TheVariants.{DeleteSpan, Descend, LowerOne, LowerPair, SwapSiblings, LowerDelete, Shift}
 use Rattle.pt_cand.specs.Candidates.{candidates_of}
-use Rattle.pt_cand.specs.Region.{without}
+use Rattle.pt_cand.specs.Region.{regions, regions_after, without}
+use Rattle.pt_cand.specs.LowerDelete.{less_without}
+use Rattle.pt_cand.specs.SwapSiblings.{swap_at}
 use Rattle.pt_cand.specs.Lower.{lower}
 use Rattle.pt_cand.specs.LowerOne.{replaced}
 use Rattle.pt_cand.specs.Left.{left_of, lower_after, places_of, later_after, pairs_left, descend_after}
@@ -45,9 +47,11 @@ start-left Shift best = left_at-start _ _ (later-start shifted) [] best.choices
 
 pub end-left : (pass : Pass) (best : Record) (cursor : Cursor) → places_of pass best ≤ cursor.place → left_of pass best cursor ≡ []
 end-left DeleteSpan best cursor past = ap (map (without best.choices)) (regions-end best.spans cursor.place past)
-end-left Descend best cursor past = left_at-end _ _ best.spans cursor.place past
-end-left LowerOne best cursor past = left_at-end _ _ best.choices cursor.place past
-end-left LowerPair best cursor past = left_at-end _ _ best.choices cursor.place past
-end-left SwapSiblings best cursor past = at_each-end _ best.spans cursor.place past
-end-left LowerDelete best cursor past = left_at-end _ _ best.choices cursor.place past
-end-left Shift best cursor past = left_at-end _ _ best.choices cursor.place past
+end-left Descend best cursor past = left_at-end (descend_after best.choices cursor.inner) (descend_at best.choices) best.spans cursor.place past
+end-left LowerOne best cursor past =
+    left_at-end (λ front given back. replaced front back (lower_after given cursor.inner)) (λ front given back. replaced front back (lower given)) best.choices cursor.place past
+end-left LowerPair best cursor past = left_at-end (later_after both_nearer cursor.inner cursor.slot) (with_later both_nearer) best.choices cursor.place past
+end-left SwapSiblings best cursor past = at_each-end (swap_at best.choices) best.spans cursor.place past
+end-left LowerDelete best cursor past =
+    left_at-end (less_without (regions_after (take cursor.inner best.spans) (drop cursor.inner best.spans))) (less_without (regions best.spans)) best.choices cursor.place past
+end-left Shift best cursor past = left_at-end (later_after shifted cursor.inner cursor.slot) (with_later shifted) best.choices cursor.place past

@@ -1,13 +1,18 @@
 -- Where the choices of two exchanged spans come from.
-use Rattle.std.proofs.Common.{◌≡◌, ◌<◌, ◌≤◌, ℕ, ◌+◌, ◌-◌, List, [], ◌∷◌, ◌++◌, length, take, drop, get_or, sym, ap, ◌∙◌, refl, subst, arith}
+use Rattle.std.proofs.Common.{◌≡◌, ◌<◌, ◌≤◌, ℕ, ◌+◌, ◌-◌, Bool, Some, slice_get, List, [], ◌∷◌, ◌++◌, length, take, drop, get_or, sym, ap, ◌∙◌, refl, subst, arith}
 use Rattle.std.specs.declared.cmp.Ordering.{Ordering}
 use Rattle.std.specs.declared.cmp.Ordering.TheVariants.{Equal}
 use Rattle.std.specs.Ordering.{nat_cmp, ordering_then}
 use Rattle.std.specs.Cmp.Lexicographic.{slice_cmp}
+use Rattle.std.specs.List.{find, position_or_len}
 use Rattle.std.proofs.lemmas.Cmp.{nat_cmp_total, tied_itself}
+use Rattle.std.proofs.lemmas.List.Folds.{find_at}
+use Rattle.std.proofs.lemmas.Option.{slice_get_within, get_or_from_slice_get, slice_get-get_or}
 use Rattle.pt_choice.specs.Order.{cmp_choice, shortlex}
 use Rattle.std.proofs.lemmas.List.{drop_more, drop_all, length-append, length-take-le, length-drop, get_or_append_left, get_or-append_right, get_or-take, get_or-drop}
 use Rattle.pt_choice.specs.declared.choice.Choice.{Choice}
+use Rattle.pt_case.specs.Placed.{IsPlaced}
+use Rattle.pt_case.specs.declared.record.Record.{Record}
 use Rattle.pt_case.specs.declared.span.Span.{Span}
 use Rattle.pt_cand.specs.Region.{before, inside, after}
 use Rattle.pt_cand.specs.SwapSiblings.{swapped, InOrder}
@@ -123,3 +128,16 @@ module _ (choices : List Choice) (one other : Span) (order : InOrder (length cho
       members ∙ agree
       ∙ ap (λ l. slice_cmp cmp_choice l (drop i choices)) (drop_all i exchanged (subst (λ n. n ≤ i) (sym (swapped-length choices one other order)) past))
       ∙ ap (λ l. slice_cmp cmp_choice [] l) (drop_all i choices past)
+
+-- a span that is found behind a place is placed like any other
+pub later-placed : (best : Record) (from : ℕ) (test : Span → Bool) (other : Span) → find test (drop from best.spans) ≡ Some other →
+    (number : ℕ) × IsPlaced number (length best.choices) other
+later-placed best from test other is =
+    let later = drop from best.spans in
+    let k = position_or_len test later in
+    let at_k : slice_get later k ≡ Some other = sym (find_at test later) ∙ is in
+    let low = slice_get_within later k other at_k in
+    let long = length-drop from best.spans in
+    let within : from + k < length best.spans = omega (arith, low, long) in
+    let same : get_or best.spans (from + k) other ≡ other = sym (get_or-drop from best.spans k other) ∙ get_or_from_slice_get later k other other at_k in
+    (from + k, best.placed (from + k) other (slice_get-get_or best.spans (from + k) other within ∙ ap (λ span. Some span) same))

@@ -1,7 +1,7 @@
 -- What a walk that stands at a cursor still has to hand out.
 use Rattle.std.specs.Prelude.{ℕ, ◌+◌, nat_eq, if◌then◌else◌, ℤ, Bool, true, false, List, [], ◌∷◌, ◌++◌, map, take, drop, length}
 use Rattle.std.specs.List.{filter}
-use Rattle.std.specs.Cmp.{int_eq}
+use Rattle.std.specs.Ordering.{int_eq}
 use Rattle.std.specs.Cmp.Lexicographic.{pointwise}
 use Rattle.pt_choice.specs.declared.choice.Choice.{Choice}
 use Rattle.pt_choice.specs.declared.choice.Choice.TheVariants as choice

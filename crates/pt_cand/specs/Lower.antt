@@ -1,6 +1,6 @@
 -- The lower choices that are tried in place of a choice.
-use Rattle.std.specs.Prelude.{ℕ, ◌+◌, ◌-◌, ◌/◌, nat_eq, ℤ, pos, negsuc, neg_ℤ, unsigned_abs, int_div, List, [], ◌∷◌, ◌++◌, map, take, length}
-use Rattle.std.specs.Cmp.{int_eq}
+use Rattle.std.specs.Prelude.{ℕ, ◌+◌, ◌-◌, ◌/◌, true, false, nat_eq, ℤ, pos, negsuc, neg_ℤ, unsigned_abs, int_div, List, [], ◌∷◌, ◌++◌, map, take, length}
+use Rattle.std.specs.Ordering.{int_eq}
 use Rattle.std.specs.Cmp.Lexicographic.{pointwise}
 use Rattle.pt_choice.specs.declared.choice.Choice.{Choice}
 use Rattle.pt_choice.specs.declared.choice.Choice.TheVariants as choice

@@ -1,7 +1,7 @@
 //! The lower integers that are tried in place of one.
 
 ghost use Rattle.std.specs.Prelude.{◌≡◌, ◌<◌, pos, ◌∷◌, [], take, MatchOption, slice_index_or};
-ghost use Rattle.std.specs.Cmp.{int_eq};
+ghost use Rattle.std.specs.Ordering.{int_eq};
 ghost use Rattle.std.specs.List.{list_any};
 ghost use Rattle.pt_choice.specs.Limits.{IsBounded};
 ghost use Rattle.pt_cand.specs.Left.{once_after};

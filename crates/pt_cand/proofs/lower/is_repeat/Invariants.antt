@@ -1,5 +1,5 @@
 use Rattle.std.proofs.Common.{◌≡◌, ◌∷◌, false, take}
-use Rattle.std.specs.Cmp.{int_eq}
+use Rattle.std.specs.Ordering.{int_eq}
 use Rattle.std.specs.List.{list_any}
 use Rattle.pt_cand.specs.Lower.{lower_integers}
 use Rattle.pt_cand.proofs.lower.is_repeat.Given as goal

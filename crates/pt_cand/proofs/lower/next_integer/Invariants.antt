@@ -1,5 +1,5 @@
 use Rattle.std.proofs.Common.{◌≡◌, ◌∷◌}
-use Rattle.std.specs.Cmp.{int_eq}
+use Rattle.std.specs.Ordering.{int_eq}
 use Rattle.pt_cand.specs.Left.{once_after}
 use Rattle.pt_cand.specs.Lower.{lower_integers}
 use Rattle.pt_cand.proofs.lower.next_integer.Given as goal
