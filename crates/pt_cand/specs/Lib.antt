@@ -1,0 +1,16 @@
+pub mod Each
+pub mod Region
+pub mod Lower
+pub mod Moves
+pub mod DeleteSpan
+pub mod Descend
+pub mod LowerOne
+pub mod LowerPair
+pub mod SwapSiblings
+pub mod LowerDelete
+pub mod Shift
+pub mod Candidates
+pub mod Minimal
+pub mod Edit
+pub mod Left
+pub mod Walk

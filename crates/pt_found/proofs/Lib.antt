@@ -1,0 +1,4 @@
+pub mod TrailLemmas
+pub mod LeapLemmas
+pub mod VainLemmas
+pub mod TableLemmas
