@@ -1,5 +1,5 @@
 -- The manual's suite is sound.
-use Rattle.std.proofs.Common.{◌≡◌, Some, None, List, [], ◌∷◌, refl, arith, rules}
+use Rattle.std.proofs.Common.{Some, None, [], ◌∷◌, refl, arith, rules}
 use Rattle.std.specs.Prelude.{codes}
 use Rattle.std.specs.List.{AllByRecursion, IsDistinct}
 use Rattle.pt_ast.specs.Types.{Int_type, Text_type, Bytes_type, List_type, types_of}
@@ -19,32 +19,87 @@ numbered : IsNumbered manual
 numbered = (refl, omega arith)
 
 commutes-typed : (after : Scope) × BindAll no_context [] commutes after
-commutes-typed = (_, (_, (Int_type, refl, (refl, refl, refl), refl), (_, (Int_type, refl, (refl, refl, refl), refl),
-    (_, ((Int_type, (refl, (refl, tt), refl), (refl, (refl, tt), refl), tt, refl), refl), refl))))
+commutes-typed = (
+  _,
+  (
+    _,
+    (Int_type, refl, (refl, refl, refl), refl),
+    (
+      _,
+      (Int_type, refl, (refl, refl, refl), refl),
+      (_, ((Int_type, (refl, (refl, tt), refl), (refl, (refl, tt), refl), tt, refl), refl), refl),
+    ),
+  ),
+)
 
 reverses-typed : (after : Scope) × BindAll no_context [] reverses after
-reverses-typed = (_, (_, (List_type Int_type, refl, (Int_type, (refl, refl, refl), refl, refl, refl), refl),
-    (_, ((List_type Int_type, (types_of (List_type Int_type ∷ []), ((types_of (List_type Int_type ∷ []), (refl, tt), (tt, refl)), tt), (tt, refl)), refl, tt, refl), refl), refl)))
+reverses-typed = (
+  _,
+  (
+    _,
+    (List_type Int_type, refl, (Int_type, (refl, refl, refl), refl, refl, refl), refl),
+    (_, ((List_type Int_type, (types_of (List_type Int_type ∷ []), ((types_of (List_type Int_type ∷ []), (refl, tt), (tt, refl)), tt), (tt, refl)), refl, tt, refl), refl), refl),
+  ),
+)
 
 joined-typed : (after : Scope) × BindAll no_context [] joined after
 unfolding IsDistinct
-joined-typed = (_, (_, (Text_type, refl, (((refl, (refl, tt)), ((refl, tt), (tt, tt))), refl, refl, refl), refl),
-    (_, (Text_type, refl, (((refl, (refl, tt)), ((refl, tt), (tt, tt))), refl, refl, refl), refl),
-    (_, ((Int_type, (types_of (Text_type ∷ []), ((types_of (Text_type ∷ Text_type ∷ []), (refl, (refl, tt)), (tt, refl, refl)), tt), (tt, refl)),
-        ((types_of (Text_type ∷ []), (refl, tt), (tt, refl)), ((types_of (Text_type ∷ []), (refl, tt), (tt, refl)), tt), refl), tt, refl), refl), refl))))
+joined-typed = (
+  _,
+  (
+    _,
+    (Text_type, refl, (((refl, (refl, tt)), ((refl, tt), (tt, tt))), refl, refl, refl), refl),
+    (
+      _,
+      (Text_type, refl, (((refl, (refl, tt)), ((refl, tt), (tt, tt))), refl, refl, refl), refl),
+      (
+        _,
+        (
+          (
+            Int_type,
+            (types_of (Text_type ∷ []), ((types_of (Text_type ∷ Text_type ∷ []), (refl, (refl, tt)), (tt, refl, refl)), tt), (tt, refl)),
+            ((types_of (Text_type ∷ []), (refl, tt), (tt, refl)), ((types_of (Text_type ∷ []), (refl, tt), (tt, refl)), tt), refl),
+            tt,
+            refl,
+          ),
+          refl,
+        ),
+        refl,
+      ),
+    ),
+  ),
+)
 
 nonempty-typed : (after : Scope) × BindAll no_context [] nonempty after
 unfolding IsDistinct
-nonempty-typed = (_, (_, (Text_type, refl, (((refl, (refl, tt)), ((refl, tt), (tt, tt))), refl, refl, refl), refl),
-    (_, ((Int_type, (types_of (Text_type ∷ []), (refl, tt), (tt, refl)), refl, refl, refl), refl), refl)))
+nonempty-typed = (
+  _,
+  (
+    _,
+    (Text_type, refl, (((refl, (refl, tt)), ((refl, tt), (tt, tt))), refl, refl, refl), refl),
+    (_, ((Int_type, (types_of (Text_type ∷ []), (refl, tt), (tt, refl)), refl, refl, refl), refl), refl),
+  ),
+)
 
 picky-typed : (after : Scope) × BindAll no_context [] picky after
-picky-typed = (_, (_, (Bytes_type, refl, (refl, refl, refl), refl),
-    (_, ((Int_type, (types_of (Bytes_type ∷ []), (refl, tt), (tt, refl)), refl, refl, refl), refl), refl)))
+picky-typed = (
+  _,
+  (
+    _,
+    (Bytes_type, refl, (refl, refl, refl), refl),
+    (_, ((Int_type, (types_of (Bytes_type ∷ []), (refl, tt), (tt, refl)), refl, refl, refl), refl), refl),
+  ),
+)
 
 halves-typed : (after : Scope) × BindAll no_context [] halves after
-halves-typed = (_, (_, (Int_type, refl, (Int_type, refl, (refl, refl, refl), (refl, (refl, tt), refl)), refl),
-    (_, ((Int_type, (refl, (refl, tt), refl), refl, tt, refl), refl), refl)))
+halves-typed = (
+  _,
+  (
+    _,
+    (Int_type, refl, (Int_type, refl, (refl, refl, refl), (refl, (refl, tt), refl)), refl),
+    (_, ((Int_type, (refl, (refl, tt), refl), refl, tt, refl), refl), refl),
+  ),
+)
 
 purse-typed : IsTypedMachine purse
 unfolding IsDistinct
@@ -55,27 +110,31 @@ purse-typed = record {
   invariants = ((Int_type, refl, refl, refl, refl), tt);
   distinct_rules = ((refl, tt), (tt, tt));
   rules = (
+    record {
+      when = tt;
+      target = Some Int_type;
+      into = (Int_type, refl, refl, refl);
+      after = (codes "coins", Int_type) ∷ (codes "n", Int_type) ∷ [];
+      stmts = (_, (Int_type, refl, (refl, refl, refl), refl), (_, (Int_type, refl, (refl, (refl, tt), refl), refl), (_, (Int_type, refl, refl, refl), refl)));
+    },
+    (
       record {
-        when = tt;
-        target = Some Int_type;
-        into = (Int_type, refl, refl, refl);
-        after = (codes "coins", Int_type) ∷ (codes "n", Int_type) ∷ [];
-        stmts = (_, (Int_type, refl, (refl, refl, refl), refl), (_, (Int_type, refl, (refl, (refl, tt), refl), refl), (_, (Int_type, refl, refl, refl), refl)))
-      },
-      (record {
         when = ((Int_type, refl, refl, refl, refl), tt);
         target = None;
         into = refl;
         after = (codes "coins", Int_type) ∷ (codes "n", Int_type) ∷ [];
-        stmts = (_, (Int_type, refl, refl, refl), (_, (Int_type, refl, ((Int_type, refl, refl, refl, refl), (refl, (refl, tt), refl), refl), refl), refl))
-      }, tt))
+        stmts = (_, (Int_type, refl, refl, refl), (_, (Int_type, refl, ((Int_type, refl, refl, refl, refl), (refl, (refl, tt), refl), refl), refl), refl));
+      },
+      tt,
+    ),
+  );
 }
 
 typed : IsTyped (codes "never" ∷ []) manual
 unfolding IsDistinct
 typed = record {
   distinct = ((refl, (refl, (refl, (refl, (refl, (refl, (refl, tt))))))), ((refl, (refl, (refl, (refl, (refl, (refl, tt)))))), ((refl, (refl, (refl, (refl, (refl, tt))))), ((refl, (refl, (refl, (refl, tt)))), ((refl, (refl, (refl, tt))), ((refl, (refl, tt)), ((refl, tt), (tt, tt))))))));
-  items = (commutes-typed, (reverses-typed, (joined-typed, (nonempty-typed, (picky-typed, (halves-typed, (purse-typed, ((0, omega arith, refl), tt))))))))
+  items = (commutes-typed, (reverses-typed, (joined-typed, (nonempty-typed, (picky-typed, (halves-typed, (purse-typed, ((0, omega arith, refl), tt))))))));
 }
 
 pub manual-is-sound : ManualIsSound

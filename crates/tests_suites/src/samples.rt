@@ -3,11 +3,9 @@ ghost use Rattle.tests_suites.specs.Samples.{TypedSamples, UntypedSamples};
 /// The typing relation holds of these small trees.
 pub fn typed_samples()
     ensures { TypedSamples }
-{
-}
+{}
 
 /// And of none of these.
 pub fn untyped_samples()
     ensures { UntypedSamples }
-{
-}
+{}
