@@ -7,21 +7,17 @@ mod stmts;
 
 ghost use Rattle.std.specs.Prelude.{◌≡◌, IfOk};
 ghost use Rattle.pt_ast.specs.Plain.{plain_suite};
-ghost use Rattle.tests_suites.specs.Manual.{ManualIsSound, manual};
+ghost use Rattle.tests_suites.specs.Manual.{manual};
 
 use crate::manual::machine::purse;
 use crate::manual::properties::{commutes, halves, joined, never, nonempty, picky, reverses};
 use pt_ast::{Items, Suite, Typed};
 use pt_choice::NoMemory;
 use std::alloc::Global;
-
-/// The tree of the manual's suite may be sealed.
-pub fn manual_is_sound()
-    ensures { ManualIsSound }
-{}
+use std::test::Fail;
 
 /// The manual's suite, sealed.
-pub fn sealed(alloc: Global) -> Result<Typed, NoMemory>
+fn sealed(alloc: Global) -> Result<Typed, NoMemory>
     ensures { IfOk result (λ typed. plain_suite typed ≡ manual) }
 {
     Ok(Typed::seal(suite(alloc)?))
@@ -42,15 +38,9 @@ fn suite(alloc: Global) -> Result<Suite, NoMemory>
     Ok(Suite { items })
 }
 
-#[cfg(test)]
-mod tests {
-    use super::*;
-    use std::test::Fail;
-
-    #[test]
-    fn the_manual_s_suite_is_sealed(rt: HostRuntime) -> Result<(), Fail> {
-        let typed = sealed(rt.alloc())?;
-        assert_eq!(rt; typed.items().len(), 8);
-        Ok(())
-    }
+#[test]
+fn the_manual_s_suite_is_sealed(rt: HostRuntime) -> Result<(), Fail> {
+    let typed = sealed(rt.alloc())?;
+    assert_eq!(rt; typed.items().len(), 8);
+    Ok(())
 }

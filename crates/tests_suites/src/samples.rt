@@ -1,3 +1,4 @@
+ghost use Rattle.tests_suites.specs.Manual.{ManualIsSound};
 ghost use Rattle.tests_suites.specs.Samples.{TypedSamples, UntypedSamples};
 
 /// The typing relation holds of these small trees.
@@ -8,4 +9,9 @@ pub fn typed_samples()
 /// And of none of these.
 pub fn untyped_samples()
     ensures { UntypedSamples }
+{}
+
+/// The tree of the manual's suite may be sealed.
+pub fn manual_is_sound()
+    ensures { ManualIsSound }
 {}
