@@ -1,1 +1,2 @@
 pub mod SampleTypes
+pub mod ManualLaws

@@ -1,10 +1,9 @@
 -- The types of the small trees.
-use Rattle.std.proofs.Common.{◌≡◌, ℕ, zero, suc, ◌+◌, ◌<◌, true, false, Option, Some, None, List, [], ◌∷◌, refl, sym, ◌∙◌, ap, subst, slice_index_or, arith}
+use Rattle.std.proofs.Common.{◌≡◌, ℕ, zero, suc, ◌+◌, ◌<◌, true, false, Some, None, [], ◌∷◌, refl, sym, ◌∙◌, subst, slice_index_or, arith}
 use Rattle.std.specs.Prelude.{codes}
 use Rattle.std.specs.List.{IsDistinct}
 use Rattle.pt_ast.specs.Types.{TypeTree, Int_type, Bool_type, Text_type, Tree_type, List_type, Tuple_type, TypeTrees, no_type, more_type, types_of, types_in}
 use Rattle.pt_ast.specs.Trees.{exprs_of}
-use Rattle.pt_ast.specs.Names.{Scope}
 use Rattle.pt_ast.specs.declared.expr.Func.TheVariants.{Len, Has, Cat}
 use Rattle.pt_ast.specs.Typing.{HaveTypes, HasMember, IsSequence, Takes, part_type}
 use Rattle.tests_suites.specs.Samples.{TypedSamples, UntypedSamples, beside, one, yes, word, listed}
@@ -18,12 +17,21 @@ typed = record {
   member = (List_type Int_type, (Int_type, refl, (refl, tt), refl), (Int_type, refl, refl, refl));
   second_part = (_, (types_of (Int_type ∷ Bool_type ∷ []), (refl, (refl, tt)), refl), (types_of (Int_type ∷ Bool_type ∷ []), Bool_type, refl, refl, refl));
   for_all = (Int_type, Bool_type, refl, (Int_type, refl, tt, refl), (Int_type, refl, refl, refl, refl), (refl, refl));
-  for_each = (Int_type, Tuple_type (types_of (Int_type ∷ Bool_type ∷ [])), refl, (Int_type, refl, tt, refl),
-      (types_of (Int_type ∷ Bool_type ∷ []), (refl, (refl, tt)), refl), refl);
+  for_each = (
+    Int_type,
+    Tuple_type (types_of (Int_type ∷ Bool_type ∷ [])),
+    refl,
+    (Int_type, refl, tt, refl),
+    (types_of (Int_type ∷ Bool_type ∷ []), (refl, (refl, tt)), refl),
+    refl,
+  );
   branches = (refl, refl, refl);
   equal_lists = (List_type Int_type, (Int_type, refl, tt, refl), (Int_type, refl, tt, refl), tt, refl);
-  tree = (types_of (Int_type ∷ List_type Tree_type ∷ []),
-      (refl, ((types_of (Tree_type ∷ []), ((types_of (Int_type ∷ []), (refl, tt), (refl, refl)), tt), (refl, refl)), tt)), (refl, refl, refl));
+  tree = (
+    types_of (Int_type ∷ List_type Tree_type ∷ []),
+    (refl, ((types_of (Tree_type ∷ []), ((types_of (Int_type ∷ []), (refl, tt), (refl, refl)), tt), (refl, refl)), tt)),
+    (refl, refl, refl),
+  );
   lists = (Int_type, (refl, refl, refl), refl, refl, refl);
   mapped = (Bool_type, refl, refl, (Bool_type, refl, tt, refl));
   deep = ((refl, refl, refl), (refl, ((refl, refl, refl), tt)));
@@ -33,9 +41,9 @@ typed = record {
     target = Some Int_type;
     into = (Int_type, refl, refl, refl);
     after = (beside None).states;
-    stmts = (_, (Int_type, refl, refl, refl), (_, (Int_type, refl, refl, refl), refl))
+    stmts = (_, (Int_type, refl, refl, refl), (_, (Int_type, refl, refl, refl), refl));
   };
-  checks = record { distinct = ((refl, tt), (tt, tt)); items = ((1, omega arith, refl), ((0, omega arith, refl), tt)) }
+  checks = record { distinct = ((refl, tt), (tt, tt)); items = ((1, omega arith, refl), ((0, omega arith, refl), tt)) };
 }
 
 -- two types that are not one
@@ -119,5 +127,5 @@ untyped = record {
   give_without_into = λ is. none-some is.stmts.1.0 (sym is.into ∙ is.stmts.1.1);
   into_without_give = λ is. let none : false ≡ true = is.into.3 in cc;
   unknown_check = λ is. not-found is.items.0.0 is.items.0.1 is.items.0.2;
-  check_twice = λ is. let apart : true ≡ false = is.distinct.0.0 in cc
+  check_twice = λ is. let apart : true ≡ false = is.distinct.0.0 in cc;
 }

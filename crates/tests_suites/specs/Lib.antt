@@ -1,2 +1,2 @@
 pub mod Samples
-pub mod Made
+pub mod Manual

@@ -1,5 +1,5 @@
 -- Small trees that are well typed, and small ones that are not.
-use Rattle.std.specs.Prelude.{◌≡◌, ℕ, ℤ, pos, true, false, Option, Some, None, List, [], ◌∷◌, codes}
+use Rattle.std.specs.Prelude.{ℕ, pos, true, Option, Some, None, List, [], ◌∷◌, codes}
 use Rattle.pt_val.specs.declared.place.Place.{Place}
 use Rattle.pt_ast.specs.declared.ident.Ident.{Ident}
 use Rattle.pt_ast.specs.declared.expr.Binder.TheVariants.{All, Each}
@@ -7,7 +7,7 @@ use Rattle.pt_ast.specs.declared.expr.CompareOp.TheVariants.{Eq, Gt}
 use Rattle.pt_ast.specs.declared.expr.Func.TheVariants.{Len, Has, Cat, Leaf, Node, Kids}
 use Rattle.pt_ast.specs.declared.expr.Op.TheVariants.{Add}
 use Rattle.pt_ast.specs.Types.{TypeTree, Int_type, Bool_type, Text_type, Tree_type, List_type, Tuple_type, types_of}
-use Rattle.pt_ast.specs.Trees.{ExprTree, Num, Text_of, Bytes_of, Flag, Var, If_of, Compare_of, Sum_of, Post_of, Call_of, Bind_of, Tuple_of, List_of, ExprTrees, exprs_of, tail_of, tails_of, index_of, part_of, posts_of, StratTree, Ints_of, Bools_of, Texts_of, Lists_of, OneOf_of, Map_of, Recursive_of, Self_of, strats_of, StmtTree, Draw_of, Let_of, Assert_of, Pick_of, Set_of, Give_of, RuleTree, Check_of, Property_of, ItemTree, SuiteTree}
+use Rattle.pt_ast.specs.Trees.{ExprTree, Num, Text_of, Bytes_of, Flag, Var, If_of, Compare_of, Sum_of, Post_of, Call_of, Bind_of, Tuple_of, List_of, exprs_of, tail_of, tails_of, index_of, part_of, posts_of, StratTree, Ints_of, Bools_of, Texts_of, Lists_of, OneOf_of, Map_of, Recursive_of, Self_of, strats_of, StmtTree, Draw_of, Assert_of, Set_of, Give_of, RuleTree, Check_of, ItemTree, SuiteTree}
 use Rattle.pt_ast.specs.Names.{Scope}
 use Rattle.pt_ast.specs.Typing.{HasType, Draws}
 use Rattle.pt_ast.specs.Suites.{Context, no_context, Binds, BindAll, IsTypedRule, IsTyped}

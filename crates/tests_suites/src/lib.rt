@@ -3,7 +3,8 @@
 //! They stand apart from the crates that they test, since a crate with tests is proved twice.
 #![tactic(auto)]
 
-mod building;
+#[cfg(test)]
+mod manual;
 mod samples;
 
-pub use samples::{typed_samples, untyped_samples};
+pub use samples::{manual_is_sound, typed_samples, untyped_samples};
