@@ -4,8 +4,6 @@
 mod always;
 mod checks;
 mod never;
-#[cfg(test)]
-mod tests;
 
 use always::Always;
 use checks::handed;
