@@ -116,7 +116,7 @@ module _ (outer : ℕ) (later : List Span) (d : Span) where
       knows-later (i + 1) j (outer + 1 + i) (omega (arith, order)) within (omega arith)
       ∙ knows-more i (outer + 1 + i) here
       ∙ alone (knows i (outer + 1 + i)) (is_among (known_at i) (parent_at i)) (nat_eq (outer + 1 + i) (outer + 1 + i))
-          (knows-none i (outer + 1 + i) (omega (arith, here)) (inl (omega arith))) (eq-eqb (outer + 1 + i) (outer + 1 + i) refl)
+      (knows-none i (outer + 1 + i) (omega (arith, here)) (inl (omega arith))) (eq-eqb (outer + 1 + i) (outer + 1 + i) refl)
       ∙ among-later i j (parent_at i) (omega (arith, order)) within earlier
 
   -- those of the later spans from here on that are below
@@ -128,7 +128,7 @@ module _ (outer : ℕ) (later : List Span) (d : Span) where
 
   below-by : (j : ℕ) (b : Bool) → known_at (j + 1) ≡ (if b then known_at j ++ (outer + 1 + j) ∷ [] else known_at j) →
       (if b then get_or later j d ∷ below (known_at j ++ (outer + 1 + j) ∷ []) (outer + 1 + j + 1) (drop (j + 1) later)
-          else below (known_at j) (outer + 1 + j + 1) (drop (j + 1) later))
+      else below (known_at j) (outer + 1 + j + 1) (drop (j + 1) later))
       ≡ (if b then get_or later j d ∷ below_from (j + 1) else below_from (j + 1))
   below-by j true known =
       let one : outer + 1 + j + 1 ≡ outer + 1 + (j + 1) = omega arith in
@@ -174,7 +174,7 @@ module _ (choices : List Choice) (earlier : List Span) (outer : Span) (later : L
   pub descend-end : (j : ℕ) → length later ≤ j → descend_after choices j earlier outer later ≡ []
   descend-end j past =
       ap (λ spans. map (descended choices outer) (filter (may_replace outer) (below (known_after (length earlier ∷ []) (length earlier + 1) (take j later)) (length earlier + 1 + j) spans)))
-          (drop_all j later past)
+      (drop_all j later past)
 
 -- the parents of a span, one step up
 module _ (outer : ℕ) (spans : List Span) (inner : ℕ) (d : Span) (within : outer + 1 + inner < length spans) where
@@ -199,7 +199,7 @@ module _ (outer : ℕ) (spans : List Span) (inner : ℕ) (d : Span) (within : ou
       let low : k - (outer + 1) < inner = omega (arith, above, reached) in
       let at_k : get_or behind (k - (outer + 1)) d ≡ get_or spans k d = get_or-drop (outer + 1) spans (k - (outer + 1)) d ∙ ap (λ n. get_or spans n d) place in
       let before : (n : ℕ) → (get_or behind (k - (outer + 1)) d).parent ≡ Some n → n < outer + 1 + (k - (outer + 1)) =
-          (λ n is. let less = earlier n (ap (λ span. span.parent) (sym at_k) ∙ is) in omega (arith, less, place)) in
+      (λ n is. let less = earlier n (ap (λ span. span.parent) (sym at_k) ∙ is) in omega (arith, less, place)) in
       ap (λ n. list_any (nat_eq n) (known_at outer behind d inner)) (sym place)
       ∙ knows-by_parent outer behind d (k - (outer + 1)) inner low inside before
       ∙ ap (λ span. is_among (known_at outer behind d inner) span.parent) at_k

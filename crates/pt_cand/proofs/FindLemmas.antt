@@ -1,7 +1,7 @@
 -- A step of each pass at one place, and what it leaves of the whole.
-use Rattle.std.proofs.Common.{◌≡◌, ◌<◌, ◌≤◌, ℕ, zero, suc, ◌+◌, ◌⊎◌, inl, inr, nat_eq, ◌&&◌, Bool, true, false, cond, ℤ, Option, Some, None, List, [], ◌∷◌, ◌++◌, map, length, take, drop, get_or, sym, ap, ◌∙◌, refl, subst, arith, add-zero, unsigned_abs, nat_lt}
+use Rattle.std.proofs.Common.{◌≡◌, ◌<◌, ◌≤◌, ℕ, zero, suc, ◌+◌, ◌⊎◌, inl, inr, nat_eq, ◌&&◌, Bool, true, false, ℤ, Some, None, List, [], ◌∷◌, ◌++◌, map, length, take, drop, get_or, sym, ap, ◌∙◌, refl, arith, unsigned_abs, nat_lt}
 use Rattle.std.specs.Prelude.{if◌then◌else◌}
-use Rattle.std.specs.List.{find, filter}
+use Rattle.std.specs.List.{find}
 use Rattle.std.specs.Ordering.{int_eq}
 use Rattle.std.specs.Cmp.Lexicographic.{pointwise}
 use Rattle.std.proofs.lemmas.List.{length-take-le, length-drop, get_or-drop, get_or_default}
@@ -13,7 +13,7 @@ use Rattle.pt_cand.specs.declared.cursor.Cursor.{Cursor}
 use Rattle.pt_cand.specs.declared.edit.Change.{Change}
 use Rattle.pt_cand.specs.declared.edit.Edit.TheVariants as edit
 use Rattle.pt_cand.specs.declared.pass.Pass.TheVariants as pass
-use Rattle.pt_cand.specs.Descend.{below, is_among, may_replace, descended, descend_at}
+use Rattle.pt_cand.specs.Descend.{is_among, may_replace, descended, descend_at}
 use Rattle.pt_cand.specs.Edit.{changed, changed_choice, edited, put_at}
 use Rattle.pt_cand.specs.Left.{known_after, left_of, lower_after, descend_after, once_after}
 use Rattle.pt_cand.specs.Lower.{lower, lower_integers, lower_octets, nearer}
@@ -69,7 +69,7 @@ module _ (best : Record) (at : Cursor) where
         (may_replace here span && is_among (known_at (length (take at.place best.spans)) later d inner) span.parent) ≡ goes_down inner span
     same-known inner span =
         ap (λ n. may_replace here span && is_among (known_after (n ∷ []) (n + 1) (take inner later)) span.parent)
-            (length-take-le at.place best.spans (omega (arith, within)))
+        (length-take-le at.place best.spans (omega (arith, within)))
 
     inner-within : (inner : ℕ) → at.place + 1 + inner < length best.spans → inner < length later
     inner-within inner low = let long = length-drop (at.place + 1) best.spans in omega (arith, low, long)
@@ -82,24 +82,24 @@ module _ (best : Record) (at : Cursor) where
         ≡ edited best.choices (edit.Descend here (get_or best.spans (at.place + 1 + inner) d)) ∷ left_of pass.Descend best (past at (inner + 1))
     goes-found inner low down =
         left_at-found (descend_after best.choices inner) (descend_after best.choices (inner + 1)) (descend_at best.choices) best.spans at.place d
-            (descended best.choices here (get_or later inner d)) within
-            (descend-found best.choices (take at.place best.spans) here later inner d (inner-within inner low)
-                (same-known inner (get_or later inner d) ∙ ap (λ span. goes_down inner span) (inner-span inner) ∙ down))
+        (descended best.choices here (get_or later inner d)) within
+        (descend-found best.choices (take at.place best.spans) here later inner d (inner-within inner low)
+        (same-known inner (get_or later inner d) ∙ ap (λ span. goes_down inner span) (inner-span inner) ∙ down))
         ∙ ap (λ span. descended best.choices here span ∷ left_of pass.Descend best (past at (inner + 1))) (inner-span inner)
 
     pub goes-passed : (inner : ℕ) → at.place + 1 + inner < length best.spans → goes_down inner (get_or best.spans (at.place + 1 + inner) d) ≡ false →
         left_of pass.Descend best (past at inner) ≡ left_of pass.Descend best (past at (inner + 1))
     goes-passed inner low down =
         left_at-same (descend_after best.choices inner) (descend_after best.choices (inner + 1)) (descend_at best.choices) best.spans at.place d within
-            (descend-passed best.choices (take at.place best.spans) here later inner d (inner-within inner low)
-                (same-known inner (get_or later inner d) ∙ ap (λ span. goes_down inner span) (inner-span inner) ∙ down))
+        (descend-passed best.choices (take at.place best.spans) here later inner d (inner-within inner low)
+        (same-known inner (get_or later inner d) ∙ ap (λ span. goes_down inner span) (inner-span inner) ∙ down))
 
     pub goes-end : (inner : ℕ) → length best.spans ≤ at.place + 1 + inner → left_of pass.Descend best (past at inner) ≡ left_of pass.Descend best (start_of (at.place + 1))
     goes-end inner high =
         let long = length-drop (at.place + 1) best.spans in
         let end : length later ≤ inner = omega (arith, high, long) in
         left_at-none (descend_after best.choices inner) (descend_after best.choices 0) (descend_at best.choices) (descend_after-start best.choices) best.spans at.place d within
-            (descend-end best.choices (take at.place best.spans) here later inner end)
+        (descend-end best.choices (take at.place best.spans) here later inner end)
 
   module _ (d : Choice) (within : at.place < length best.choices) where
     abbrev given : Choice
@@ -115,20 +115,20 @@ module _ (best : Record) (at : Cursor) where
         left_of pass.LowerOne best at ≡ put_at at.place low best.choices ∷ left_of pass.LowerOne best (past at inner)
     lower-found low inner is =
         left_at-found (λ front given back. replaced front back (lower_after given at.inner)) (λ front given back. replaced front back (lower_after given inner))
-            (λ front given back. replaced front back (lower given)) best.choices at.place d (front ++ low ∷ back) within (ap (replaced front back) is)
+        (λ front given back. replaced front back (lower given)) best.choices at.place d (front ++ low ∷ back) within (ap (replaced front back) is)
 
     pub lower-none : lower_after given at.inner ≡ [] → left_of pass.LowerOne best at ≡ left_of pass.LowerOne best (start_of (at.place + 1))
     lower-none is =
         left_at-none (λ front given back. replaced front back (lower_after given at.inner)) (λ front given back. replaced front back (lower_after given 0))
-            (λ front given back. replaced front back (lower given)) (λ front given back. ap (replaced front back) (lower_after-start given)) best.choices at.place d within
-            (ap (replaced front back) is)
+        (λ front given back. replaced front back (lower given)) (λ front given back. ap (replaced front back) (lower_after-start given)) best.choices at.place d within
+        (ap (replaced front back) is)
 
     -- a choice that is true becomes false
     pub lower-flag : given ≡ choice.Bool true → at.inner ≡ 0 →
         left_of pass.LowerOne best at ≡ edited best.choices (edit.Unset at.place) ∷ left_of pass.LowerOne best (past at 1)
     lower-flag is first =
         lower-found (choice.Bool false) 1
-            (ap (λ g. lower_after g at.inner) is ∙ ap (λ n. drop n (choice.Bool false ∷ [])) first ∙ sym (ap (λ g. choice.Bool false ∷ lower_after g 1) is))
+        (ap (λ g. lower_after g at.inner) is ∙ ap (λ n. drop n (choice.Bool false ∷ [])) first ∙ sym (ap (λ g. choice.Bool false ∷ lower_after g 1) is))
 
     flag-none : (value : Bool) (n : ℕ) → (value ≡ false) ⊎ (1 ≤ n) → lower_after (choice.Bool value) n ≡ []
     flag-none false zero end = refl
@@ -149,7 +149,7 @@ module _ (best : Record) (at : Cursor) where
         left_of pass.LowerOne best at ≡ edited best.choices (edit.Put at.place low) ∷ left_of pass.LowerOne best (past at inner)
     lower-integer value is low inner next =
         lower-found (choice.Int low) inner
-            (ap (λ g. lower_after g at.inner) is ∙ ap (map (λ v. choice.Int v)) next ∙ sym (ap (λ g. choice.Int low ∷ lower_after g inner) is))
+        (ap (λ g. lower_after g at.inner) is ∙ ap (map (λ v. choice.Int v)) next ∙ sym (ap (λ g. choice.Int low ∷ lower_after g inner) is))
 
     pub lower-integer_none : (value : ℤ) → given ≡ choice.Int value → integers value at.inner ≡ [] →
         left_of pass.LowerOne best at ≡ left_of pass.LowerOne best (start_of (at.place + 1))
@@ -166,7 +166,7 @@ module _ (best : Record) (at : Cursor) where
         left_of pass.LowerOne best at ≡ edited best.choices (edit.Change at.place change) ∷ left_of pass.LowerOne best (past at inner)
     lower-bytes octets is change inner next =
         lower-found (choice.Bytes (changed change octets)) inner
-            (ap (λ g. lower_after g at.inner) is ∙ ap (map (λ o. choice.Bytes o)) next ∙ sym (ap (λ g. choice.Bytes (changed change octets) ∷ lower_after g inner) is))
+        (ap (λ g. lower_after g at.inner) is ∙ ap (map (λ o. choice.Bytes o)) next ∙ sym (ap (λ g. choice.Bytes (changed change octets) ∷ lower_after g inner) is))
         ∙ ap (λ g. put_at at.place (changed_choice change g) best.choices ∷ left_of pass.LowerOne best (past at inner)) (sym (same-given ∙ is))
 
     pub lower-bytes_none : (octets : List ℕ) → given ≡ choice.Bytes octets → lists octets at.inner ≡ [] →
@@ -177,7 +177,7 @@ module _ (best : Record) (at : Cursor) where
         left_of pass.LowerOne best at ≡ edited best.choices (edit.Change at.place change) ∷ left_of pass.LowerOne best (past at inner)
     lower-text octets is change inner next =
         lower-found (choice.Text (changed change octets)) inner
-            (ap (λ g. lower_after g at.inner) is ∙ ap (map (λ o. choice.Text o)) next ∙ sym (ap (λ g. choice.Text (changed change octets) ∷ lower_after g inner) is))
+        (ap (λ g. lower_after g at.inner) is ∙ ap (map (λ o. choice.Text o)) next ∙ sym (ap (λ g. choice.Text (changed change octets) ∷ lower_after g inner) is))
         ∙ ap (λ g. put_at at.place (changed_choice change g) best.choices ∷ left_of pass.LowerOne best (past at inner)) (sym (same-given ∙ is))
 
     pub lower-text_none : (octets : List ℕ) → given ≡ choice.Text octets → lists octets at.inner ≡ [] →
@@ -213,16 +213,16 @@ module _ (best : Record) (at : Cursor) where
             left_of pass.LowerDelete best (past at number) ≡ left_of pass.LowerDelete best (past at (number + 1))
         less-at_seen number e low seen =
             left_at-same (less_after number) (less_after (number + 1)) (less_without (regions best.spans)) best.choices at.place d within
-                (ap (λ g. less_after number front g back) is ∙ less-seen best.spans front value back nonzero number e low seen
-                    ∙ sym (ap (λ g. less_after (number + 1) front g back) is))
+            (ap (λ g. less_after number front g back) is ∙ less-seen best.spans front value back nonzero number e low seen
+            ∙ sym (ap (λ g. less_after (number + 1) front g back) is))
 
         pub less-at_early : (number : ℕ) (e : Span) → number < length best.spans → nat_lt at.place (get_or best.spans number e).from ≡ false →
             left_of pass.LowerDelete best (past at number) ≡ left_of pass.LowerDelete best (past at (number + 1))
         less-at_early number e low early =
             left_at-same (less_after number) (less_after (number + 1)) (less_without (regions best.spans)) best.choices at.place d within
-                (ap (λ g. less_after number front g back) is
-                    ∙ less-early best.spans front value back nonzero number e low (ap (λ n. nat_lt n (get_or best.spans number e).from) front-length ∙ early)
-                    ∙ sym (ap (λ g. less_after (number + 1) front g back) is))
+            (ap (λ g. less_after number front g back) is
+            ∙ less-early best.spans front value back nonzero number e low (ap (λ n. nat_lt n (get_or best.spans number e).from) front-length ∙ early)
+            ∙ sym (ap (λ g. less_after (number + 1) front g back) is))
 
         pub less-at_found : (number : ℕ) (e : Span) → number < length best.spans → at.place < (get_or best.spans number e).from →
             (get_or best.spans number e).from ≤ (get_or best.spans number e).to → nat_lt at.place (get_or best.spans number e).from ≡ true →
@@ -231,9 +231,9 @@ module _ (best : Record) (at : Cursor) where
             ≡ edited best.choices (edit.PutAndDelete at.place (nearer value 1) (get_or best.spans number e)) ∷ left_of pass.LowerDelete best (past at (number + 1))
         less-at_found number e low before order later own =
             left_at-found (less_after number) (less_after (number + 1)) (less_without (regions best.spans)) best.choices at.place d
-                (without (front ++ choice.Int (nearer value 1) ∷ back) (get_or best.spans number e)) within
-                (ap (λ g. less_after number front g back) is
-                    ∙ less-found best.spans front value back nonzero number e low (ap (λ n. nat_lt n (get_or best.spans number e).from) front-length ∙ later) own
-                    ∙ ap (λ lists. without (front ++ choice.Int (nearer value 1) ∷ back) (get_or best.spans number e) ∷ lists) (sym (ap (λ g. less_after (number + 1) front g back) is)))
+            (without (front ++ choice.Int (nearer value 1) ∷ back) (get_or best.spans number e)) within
+            (ap (λ g. less_after number front g back) is
+            ∙ less-found best.spans front value back nonzero number e low (ap (λ n. nat_lt n (get_or best.spans number e).from) front-length ∙ later) own
+            ∙ ap (λ lists. without (front ++ choice.Int (nearer value 1) ∷ back) (get_or best.spans number e) ∷ lists) (sym (ap (λ g. less_after (number + 1) front g back) is)))
             ∙ ap (λ list. list ∷ left_of pass.LowerDelete best (past at (number + 1)))
-                (less-edited best.choices at.place (nearer value 1) (get_or best.spans number e) before order within)
+            (less-edited best.choices at.place (nearer value 1) (get_or best.spans number e) before order within)

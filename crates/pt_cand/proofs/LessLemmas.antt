@@ -1,8 +1,7 @@
 -- An integer made one less and a region behind it left out, one span on.
-use Rattle.std.proofs.Common.{◌≡◌, ◌<◌, ◌≤◌, ℕ, zero, suc, ◌+◌, ◌&&◌, Bool, true, false, cond, ℤ, List, [], ◌∷◌, ◌++◌, map, length, take, drop, get_or, sym, ap, ◌∙◌, refl, subst, arith, add-one, unsigned_abs, nat_lt}
+use Rattle.std.proofs.Common.{◌≡◌, ◌<◌, ◌≤◌, ℕ, zero, suc, ◌+◌, Bool, true, false, cond, ℤ, List, [], ◌∷◌, ◌++◌, map, length, take, drop, get_or, sym, ap, ◌∙◌, refl, subst, arith, add-one, unsigned_abs, nat_lt}
 use Rattle.std.specs.Prelude.{if◌then◌else◌}
 use Rattle.std.specs.List.{filter}
-use Rattle.std.proofs.lemmas.List.{length-take-le}
 use Rattle.pt_choice.specs.declared.choice.Choice.{Choice}
 use Rattle.pt_choice.specs.declared.choice.Choice.TheVariants as choice
 use Rattle.pt_case.specs.declared.span.Span.{Span}
@@ -48,7 +47,7 @@ module _ (spans : List Span) (front : List Choice) (value : ℤ) (back : List Ch
   less-found number d within later own =
       is_behind number ∙ ap behind (regions-own spans number d within own)
       ∙ ap (λ b. map (without lessened) (cond b (get_or spans number d ∷ filter (begins_after (length front)) (regions_after (take (number + 1) spans) (drop (number + 1) spans)))
-          (filter (begins_after (length front)) (regions_after (take (number + 1) spans) (drop (number + 1) spans))))) later
+      (filter (begins_after (length front)) (regions_after (take (number + 1) spans) (drop (number + 1) spans))))) later
       ∙ ap (λ lists. without lessened (get_or spans number d) ∷ lists) (sym (is_behind (number + 1)))
 
   pub less-seen : (number : ℕ) (d : Span) → number < length spans → is_own spans number (get_or spans number d) ≡ false → left number ≡ left (number + 1)
@@ -59,7 +58,7 @@ module _ (spans : List Span) (front : List Choice) (value : ℤ) (back : List Ch
   by_own number d within early true is =
       is_behind number ∙ ap behind (regions-own spans number d within is)
       ∙ ap (λ b. map (without lessened) (cond b (get_or spans number d ∷ filter (begins_after (length front)) (regions_after (take (number + 1) spans) (drop (number + 1) spans)))
-          (filter (begins_after (length front)) (regions_after (take (number + 1) spans) (drop (number + 1) spans))))) early
+      (filter (begins_after (length front)) (regions_after (take (number + 1) spans) (drop (number + 1) spans))))) early
       ∙ sym (is_behind (number + 1))
   by_own number d within early false is = less-seen number d within is
 
@@ -88,7 +87,7 @@ pub less-edited : (choices : List Choice) (place : ℕ) (value : ℤ) (span : Sp
     without (take place choices ++ choice.Int value ∷ drop (place + 1) choices) span ≡ edited choices (edit.PutAndDelete place value span)
 less-edited choices place value span before order within =
     let P : ℕ → Type 0 = λ n. without (take place choices ++ choice.Int value ∷ drop n choices) span
-        ≡ take place choices ++ choice.Int value ∷ drop n (take span.from choices) ++ drop span.to choices in
+    ≡ take place choices ++ choice.Int value ∷ drop n (take span.from choices) ++ drop span.to choices in
     subst P (sym (add-one place))
-        (ap (λ l. l ++ drop span.to (take place choices ++ choice.Int value ∷ drop (suc place) choices)) (put-take choices (choice.Int value) place span.from before within)
-        ∙ ap (λ l. take place choices ++ choice.Int value ∷ drop (suc place) (take span.from choices) ++ l) (put-drop choices (choice.Int value) place span.to (omega (arith, before, order)) within))
+    (ap (λ l. l ++ drop span.to (take place choices ++ choice.Int value ∷ drop (suc place) choices)) (put-take choices (choice.Int value) place span.from before within)
+    ∙ ap (λ l. take place choices ++ choice.Int value ∷ drop (suc place) (take span.from choices) ++ l) (put-drop choices (choice.Int value) place span.to (omega (arith, before, order)) within))

@@ -1,5 +1,5 @@
 -- The lower integers and the lower lists, one further on.
-use Rattle.std.proofs.Common.{◌≡◌, ◌<◌, ◌≤◌, ℕ, ◌+◌, ◌*◌, Bool, true, false, nat_eq, ℤ, pos, List, [], ◌∷◌, length, take, get_or, sym, ap, ◌∙◌, arith, ◌||◌}
+use Rattle.std.proofs.Common.{◌≡◌, ◌<◌, ◌≤◌, ℕ, ◌+◌, ◌*◌, true, false, nat_eq, ℤ, pos, List, [], ◌∷◌, length, take, get_or, sym, ap, ◌∙◌, arith, ◌||◌}
 use Rattle.std.specs.Cmp.Lexicographic.{pointwise}
 use Rattle.std.specs.List.{list_any}
 use Rattle.std.specs.Ordering.{int_eq}
@@ -65,7 +65,7 @@ module _ (octets low : List ℕ) (number earlier : ℕ) where
       let long = length-numbered octets in
       let inside : earlier < length (take number listed) = omega (arith, before, within, long, length-take number listed) in
       list_any_at (pointwise nat_eq (get_or listed number [])) (take number listed) earlier [] inside
-          (ap (pointwise nat_eq (get_or listed number [])) (get_or-take number listed earlier [] before ∙ sym was) ∙ ap (λ l. pointwise nat_eq l other) (sym is) ∙ same)
+      (ap (pointwise nat_eq (get_or listed number [])) (get_or-take number listed earlier [] before ∙ sym was) ∙ ap (λ l. pointwise nat_eq l other) (sym is) ∙ same)
 
   pub list-none : (other : List ℕ) → other ≡ get_or listed earlier [] → earlier < number → number < 2 + 4 * length octets →
       list_any (pointwise nat_eq low) (take earlier listed) ≡ false → pointwise nat_eq low other ≡ false → list_any (pointwise nat_eq low) (take (earlier + 1) listed) ≡ false

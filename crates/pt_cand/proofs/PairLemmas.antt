@@ -1,5 +1,5 @@
 -- Two places that are moved together, one step on.
-use Rattle.std.proofs.Common.{◌≡◌, ◌⊎◌, ◌<◌, ◌≤◌, ℕ, zero, suc, ◌+◌, ◌-◌, ℤ, Option, Some, None, List, [], ◌∷◌, ◌++◌, map, length, take, drop, get_or, slice_get, sym, ap, ◌∙◌, refl, subst, arith, inl, inr}
+use Rattle.std.proofs.Common.{◌≡◌, ◌⊎◌, ◌<◌, ◌≤◌, ℕ, zero, suc, ◌+◌, ◌-◌, ℤ, Some, None, List, [], ◌∷◌, ◌++◌, map, length, take, drop, get_or, slice_get, sym, ap, ◌∙◌, refl, arith, inl, inr}
 use Rattle.std.proofs.lemmas.List.{drop_more, drop_all, drop-take, drop-drop, length-drop, get_or-drop}
 use Rattle.std.proofs.lemmas.Option.{slice_get_within, get_or_from_slice_get, slice_get-get_or}
 use Rattle.std.proofs.lemmas.Bool.{cases_lt}
@@ -9,7 +9,7 @@ use Rattle.pt_cand.specs.declared.cursor.Cursor.{Cursor}
 use Rattle.pt_cand.specs.declared.edit.Edit.TheVariants as edit
 use Rattle.pt_cand.specs.Edit.{edited}
 use Rattle.pt_cand.specs.Moves.{in_places, with_later, of_integers, moves}
-use Rattle.pt_cand.specs.Left.{left_at, later_after, pairs_left}
+use Rattle.pt_cand.specs.Left.{later_after, pairs_left}
 use Rattle.pt_cand.specs.Walk.{start_of}
 use Rattle.pt_cand.proofs.EachLemmas.{left_at-empty, left_at-end, left_at-none, left_at-found, left_at-same}
 use Rattle.pt_cand.proofs.StartLemmas.{later-start}
@@ -63,8 +63,8 @@ module _ (make : ℤ → ℤ → List (ℤ × ℤ)) where
   no_more : (one : Choice) → ((value : ℤ) → one ≡ choice.Int value → ⊥) → (inner slot : ℕ) (front back : List Choice) → later_after make inner slot front one back ≡ []
   no_more one never inner slot front back =
       left_at-empty (rest_of slot front one) (at_one front one)
-          (λ between other rest. ap (λ l. map (in_places front between rest) (drop slot l)) (nothing one never other) ∙ ap (map (in_places front between rest)) (drop-empty slot))
-          (λ between other rest. ap (map (in_places front between rest)) (nothing one never other)) (take inner back) (drop inner back)
+      (λ between other rest. ap (λ l. map (in_places front between rest) (drop slot l)) (nothing one never other) ∙ ap (map (in_places front between rest)) (drop-empty slot))
+      (λ between other rest. ap (map (in_places front between rest)) (nothing one never other)) (take inner back) (drop inner back)
 
   module _ (choices : List Choice) (place : ℕ) (d : Choice) (within : place < length choices) where
     abbrev back : List Choice
@@ -92,8 +92,8 @@ module _ (make : ℤ → ℤ → List (ℤ × ℤ)) where
     pairs-passed inner slot later is =
         let front = take place choices in
         left_at-same (later_after make inner slot) (later_after make (inner + 1) 0) (with_later make) choices place d within
-            (left_at-none (rest_of slot front one) (rest_of 0 front one) (at_one front one) (λ between other rest. refl) back inner d later
-                (ap (map (in_places front (take inner back) (drop (inner + 1) back))) is))
+        (left_at-none (rest_of slot front one) (rest_of 0 front one) (at_one front one) (λ between other rest. refl) back inner d later
+        (ap (map (in_places front (take inner back) (drop (inner + 1) back))) is))
 
     pub pairs-found : (inner slot : ℕ) (pair : ℤ × ℤ) → inner < length back →
         drop slot (of_integers make one (get_or back inner d)) ≡ pair ∷ drop (slot + 1) (of_integers make one (get_or back inner d)) →
@@ -103,8 +103,8 @@ module _ (make : ℤ → ℤ → List (ℤ × ℤ)) where
         let front = take place choices in
         let first = in_places front (take inner back) (drop (inner + 1) back) pair in
         left_at-found (later_after make inner slot) (later_after make inner (slot + 1)) (with_later make) choices place d first within
-            (left_at-found (rest_of slot front one) (rest_of (slot + 1) front one) (at_one front one) back inner d first later
-                (ap (map (in_places front (take inner back) (drop (inner + 1) back))) is))
+        (left_at-found (rest_of slot front one) (rest_of (slot + 1) front one) (at_one front one) back inner d first later
+        (ap (map (in_places front (take inner back) (drop (inner + 1) back))) is))
 
     -- the list that the edit makes
     pub pair-edited : (inner : ℕ) (pair : ℤ × ℤ) →
@@ -114,7 +114,7 @@ module _ (make : ℤ → ℤ → List (ℤ × ℤ)) where
         let two : place + 1 + (inner + 1) ≡ place + 1 + inner + 1 = omega arith in
         ap (λ between. take place choices ++ choice.Int pair.0 ∷ between ++ choice.Int pair.1 ∷ drop (inner + 1) back) (sym (drop-take (place + 1) inner choices))
         ∙ ap (λ rest. take place choices ++ choice.Int pair.0 ∷ drop (place + 1) (take (place + 1 + inner) choices) ++ choice.Int pair.1 ∷ rest)
-            (drop-drop (inner + 1) (place + 1) choices ∙ ap (λ n. drop n choices) two)
+        (drop-drop (inner + 1) (place + 1) choices ∙ ap (λ n. drop n choices) two)
 
     abbrev second : ℕ → Choice
     second inner = get_or choices (place + 1 + inner) d
@@ -132,7 +132,7 @@ module _ (make : ℤ → ℤ → List (ℤ × ℤ)) where
     pairs-here inner slot x y pair is later low found =
         let made = made-here inner x y is later in
         pairs-found inner slot pair (inner-within inner low)
-            (ap (drop slot) made ∙ drop-get (make x y) slot pair found ∙ ap (λ l. pair ∷ drop (slot + 1) l) (sym made))
+        (ap (drop slot) made ∙ drop-get (make x y) slot pair found ∙ ap (λ l. pair ∷ drop (slot + 1) l) (sym made))
         ∙ ap (λ list. list ∷ pairs_left make choices (cursor_at inner (slot + 1))) (pair-edited inner pair)
 
     pub pairs-over : (inner slot : ℕ) (x y : ℤ) → one ≡ choice.Int x → second inner ≡ choice.Int y → place + 1 + inner < length choices →
@@ -150,9 +150,9 @@ module _ (make : ℤ → ℤ → List (ℤ × ℤ)) where
         pairs_left make choices (cursor_at inner slot) ≡ pairs_left make choices (cursor_at (inner + 1) 0)
     pairs-other inner slot x is never low =
         pairs-passed inner slot (inner-within inner low)
-            (ap (λ a. drop slot (of_integers make a (get_or back inner d))) is
-                ∙ ap (λ b. drop slot (of_integers make (choice.Int x) b)) (get_or-drop (place + 1) choices inner d)
-                ∙ ap (drop slot) (nothing_later x (second inner) never) ∙ drop-empty slot)
+        (ap (λ a. drop slot (of_integers make a (get_or back inner d))) is
+        ∙ ap (λ b. drop slot (of_integers make (choice.Int x) b)) (get_or-drop (place + 1) choices inner d)
+        ∙ ap (drop slot) (nothing_later x (second inner) never) ∙ drop-empty slot)
 
     pub pairs-past : (inner slot : ℕ) → length choices - (place + 1) ≤ inner → pairs_left make choices (cursor_at inner slot) ≡ pairs_left make choices (start_of (place + 1))
     pairs-past inner slot past = let long = length-drop (place + 1) choices in pairs-end inner slot (omega (arith, past, long))

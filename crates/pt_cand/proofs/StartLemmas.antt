@@ -1,5 +1,5 @@
 -- Where a pass begins, and where it ends.
-use Rattle.std.proofs.Common.{◌≡◌, ◌≤◌, ℕ, ◌+◌, ℤ, List, [], ◌∷◌, ap, refl, take, drop, length, add-zero}
+use Rattle.std.proofs.Common.{◌≡◌, ◌≤◌, ◌+◌, ℤ, List, [], ◌∷◌, ap, refl, take, drop, length, add-zero}
 use Rattle.pt_choice.specs.declared.choice.Choice.{Choice}
 use Rattle.pt_choice.specs.declared.choice.Choice.TheVariants as choice
 use Rattle.pt_case.specs.declared.record.Record.{Record}
@@ -16,8 +16,8 @@ use Rattle.pt_cand.specs.LowerDelete.{less_without}
 use Rattle.pt_cand.specs.SwapSiblings.{swap_at}
 use Rattle.pt_cand.specs.Lower.{lower}
 use Rattle.pt_cand.specs.LowerOne.{replaced}
-use Rattle.pt_cand.specs.Left.{left_of, lower_after, places_of, later_after, pairs_left, descend_after}
-use Rattle.pt_cand.specs.Moves.{with_later, in_pairs, both_nearer, shifted}
+use Rattle.pt_cand.specs.Left.{left_of, lower_after, places_of, later_after, descend_after}
+use Rattle.pt_cand.specs.Moves.{with_later, both_nearer, shifted}
 use Rattle.pt_cand.specs.Walk.{start_of}
 use Rattle.pt_cand.proofs.EachLemmas.{at_each-end, left_at-start, left_at-end}
 use Rattle.pt_cand.proofs.RegionLemmas.{regions-end}

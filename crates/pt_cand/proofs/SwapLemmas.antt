@@ -1,5 +1,5 @@
 -- Where the choices of two exchanged spans come from.
-use Rattle.std.proofs.Common.{◌≡◌, ◌<◌, ◌≤◌, ℕ, ◌+◌, ◌-◌, Bool, Some, slice_get, List, [], ◌∷◌, ◌++◌, length, take, drop, get_or, sym, ap, ◌∙◌, refl, subst, arith}
+use Rattle.std.proofs.Common.{◌≡◌, ◌<◌, ◌≤◌, ℕ, ◌+◌, ◌-◌, Bool, Some, slice_get, List, [], ◌∷◌, ◌++◌, length, take, drop, get_or, sym, ap, ◌∙◌, subst, arith}
 use Rattle.std.specs.declared.cmp.Ordering.{Ordering}
 use Rattle.std.specs.declared.cmp.Ordering.TheVariants.{Equal}
 use Rattle.std.specs.Ordering.{nat_cmp, ordering_then}
@@ -14,7 +14,6 @@ use Rattle.pt_choice.specs.declared.choice.Choice.{Choice}
 use Rattle.pt_case.specs.Placed.{IsPlaced}
 use Rattle.pt_case.specs.declared.record.Record.{Record}
 use Rattle.pt_case.specs.declared.span.Span.{Span}
-use Rattle.pt_cand.specs.Region.{before, inside, after}
 use Rattle.pt_cand.specs.SwapSiblings.{swapped, InOrder}
 
 part-length : (choices : List Choice) (from to : ℕ) → to ≤ length choices → length (drop from (take to choices)) ≡ to - from
@@ -27,12 +26,16 @@ part-get choices from to k d within = get_or-drop from (take to choices) k d ∙
 module _ (choices : List Choice) (one other : Span) (order : InOrder (length choices) one other) where
   abbrev p1 : List Choice
   p1 = take one.from choices
+
   abbrev p2 : List Choice
   p2 = drop other.from (take other.to choices)
+
   abbrev p3 : List Choice
   p3 = drop one.to (take other.from choices)
+
   abbrev p4 : List Choice
   p4 = drop one.from (take one.to choices)
+
   abbrev p5 : List Choice
   p5 = drop other.to choices
 
@@ -100,7 +103,7 @@ module _ (choices : List Choice) (one other : Span) (order : InOrder (length cho
   members : shortlex exchanged choices ≡ slice_cmp cmp_choice exchanged choices
   members =
       ap (λ o. ordering_then o (slice_cmp cmp_choice exchanged choices))
-          (ap (λ n. nat_cmp n (length choices)) (swapped-length choices one other order) ∙ tied_itself nat_cmp_total (length choices))
+      (ap (λ n. nat_cmp n (length choices)) (swapped-length choices one other order) ∙ tied_itself nat_cmp_total (length choices))
 
   -- so far the two lists agree
   abbrev Agree : ℕ → Type 0

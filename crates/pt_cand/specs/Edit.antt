@@ -1,5 +1,5 @@
 -- How the code notes a list before it is made.
-use Rattle.std.specs.Prelude.{ℕ, ◌+◌, ◌≤◌, false, length, List, [], ◌∷◌, ◌++◌, take, drop, slice_index_or}
+use Rattle.std.specs.Prelude.{ℕ, ◌+◌, ◌≤◌, false, length, List, ◌∷◌, ◌++◌, take, drop, slice_index_or}
 use Rattle.std.specs.List.{cons_option}
 use Rattle.pt_choice.specs.declared.choice.Choice.{Choice}
 use Rattle.pt_choice.specs.declared.choice.Choice.TheVariants as choice

@@ -1,5 +1,5 @@
 -- What a walk that stands at a cursor still has to hand out.
-use Rattle.std.specs.Prelude.{ℕ, ◌+◌, nat_eq, if◌then◌else◌, ℤ, Bool, true, false, List, [], ◌∷◌, ◌++◌, map, take, drop, length}
+use Rattle.std.specs.Prelude.{ℕ, ◌+◌, nat_eq, if◌then◌else◌, ℤ, Bool, List, [], ◌∷◌, ◌++◌, map, take, drop, length}
 use Rattle.std.specs.List.{filter}
 use Rattle.std.specs.Ordering.{int_eq}
 use Rattle.std.specs.Cmp.Lexicographic.{pointwise}
@@ -45,13 +45,13 @@ known_after known number (span ∷ later) = known_after (if is_among known span.
 abbrev pub descend_after : List Choice → ℕ → List Span → Span → List Span → List (List Choice)
 descend_after choices looked earlier outer later =
     map (descended choices outer) (filter (may_replace outer)
-        (below (known_after (length earlier ∷ []) (length earlier + 1) (take looked later)) (length earlier + 1 + looked) (drop looked later)))
+    (below (known_after (length earlier ∷ []) (length earlier + 1) (take looked later)) (length earlier + 1 + looked) (drop looked later)))
 
 -- of a place and each later one, where so many later ones were passed, and so much was made of the next one
 abbrev pub later_after : (ℤ → ℤ → List (ℤ × ℤ)) → ℕ → ℕ → List Choice → Choice → List Choice → List (List Choice)
 later_after make passed made front one back =
     left_at (λ between other rest. map (in_places front between rest) (drop made (of_integers make one other)))
-        (λ between other rest. map (in_places front between rest) (of_integers make one other)) (take passed back) (drop passed back)
+    (λ between other rest. map (in_places front between rest) (of_integers make one other)) (take passed back) (drop passed back)
 
 -- by how they are moved
 abbrev pub moved_by : Together → ℤ → ℤ → List (ℤ × ℤ)
@@ -71,7 +71,7 @@ left_of LowerPair best cursor = pairs_left both_nearer best.choices cursor
 left_of SwapSiblings best cursor = at_each (swap_at best.choices) (take cursor.place best.spans) (drop cursor.place best.spans)
 left_of LowerDelete best cursor =
     left_at (less_without (regions_after (take cursor.inner best.spans) (drop cursor.inner best.spans))) (less_without (regions best.spans))
-        (take cursor.place best.choices) (drop cursor.place best.choices)
+    (take cursor.place best.choices) (drop cursor.place best.choices)
 left_of Shift best cursor = pairs_left shifted best.choices cursor
 
 -- how many places a pass goes through

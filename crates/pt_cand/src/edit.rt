@@ -64,7 +64,12 @@ impl Edit {
                 other,
             } => make::put_both(alloc, choices, (first, one), (second, other)),
             Edit::Swap(one, other) => make::swapped(alloc, choices, one, other),
-            Edit::PutAndDelete { place, value, span } => make::put_and_deleted(alloc, choices, (place, value), span),
+            Edit::PutAndDelete { place, value, span } => make::put_and_deleted(
+                alloc,
+                choices,
+                (place, value),
+                span,
+            ),
         }
     }
 }

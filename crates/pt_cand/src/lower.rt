@@ -53,7 +53,7 @@ pub(crate) fn next_integer(value: i128, looked: usize) -> Option<(i128, usize)>
     ensures { MatchOption result
         (once_after int_eq (value ∷ lower_integers value) looked ≡ [])
         (λ next. once_after int_eq (value ∷ lower_integers value) looked
-            ≡ next.0 ∷ once_after int_eq (value ∷ lower_integers value) next.1) }
+        ≡ next.0 ∷ once_after int_eq (value ∷ lower_integers value) next.1) }
 {
     for number in looked..4 {
         if !is_repeat(value, number + 1) {

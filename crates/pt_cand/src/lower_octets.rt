@@ -129,7 +129,7 @@ pub(crate) fn next_change(octets: &[u8], looked: usize) -> Option<(Change, usize
     ensures { MatchOption result
         (once_after (pointwise nat_eq) (octets.now ∷ lower_octets octets.now) looked ≡ [])
         (λ next. once_after (pointwise nat_eq) (octets.now ∷ lower_octets octets.now) looked
-            ≡ changed next.0 octets.now ∷ once_after (pointwise nat_eq) (octets.now ∷ lower_octets octets.now) next.1) }
+        ≡ changed next.0 octets.now ∷ once_after (pointwise nat_eq) (octets.now ∷ lower_octets octets.now) next.1) }
 {
     for number in looked..1 + 4 * octets.len() {
         if !is_repeat(octets, number + 1) {

@@ -17,21 +17,33 @@ use std::alloc::Global;
 fn front<T>(items: &[T], to: usize) -> &[T]
     ensures { result.now ≡ take to items.now }
 {
-    if to < items.len() { &items[..to] } else { items }
+    if to < items.len() {
+        &items[..to]
+    } else {
+        items
+    }
 }
 
 // The items from a place on.
 fn back<T>(items: &[T], from: usize) -> &[T]
     ensures { result.now ≡ drop from items.now }
 {
-    if from < items.len() { &items[from..] } else { &items[items.len()..] }
+    if from < items.len() {
+        &items[from..]
+    } else {
+        &items[items.len()..]
+    }
 }
 
 // The items behind a place.
 fn behind<T>(items: &[T], place: usize) -> &[T]
     ensures { result.now ≡ drop (place + 1) items.now }
 {
-    if place < items.len() { &items[place + 1..] } else { &items[items.len()..] }
+    if place < items.len() {
+        &items[place + 1..]
+    } else {
+        &items[items.len()..]
+    }
 }
 
 fn extend(list: &mut Choices, more: &[Choice]) -> Result<(), NoMemory>
@@ -52,17 +64,33 @@ pub(crate) fn deleted(alloc: Global, choices: &[Choice], span: Span) -> Result<C
     Ok(list)
 }
 
-pub(crate) fn descended(alloc: Global, choices: &[Choice], outer: Span, inner: Span) -> Result<Choices, NoMemory>
+pub(crate) fn descended(
+    alloc: Global,
+    choices: &[Choice],
+    outer: Span,
+    inner: Span,
+) -> Result<Choices, NoMemory>
     ensures { IfOk result (λ list. list ≡ descended choices.now outer inner) }
 {
     let mut list = Choices::empty(alloc);
     extend(&mut list, front(choices, usize::from(outer.from)))?;
-    extend(&mut list, back(front(choices, usize::from(inner.to)), usize::from(inner.from)))?;
+    extend(
+        &mut list,
+        back(
+            front(choices, usize::from(inner.to)),
+            usize::from(inner.from),
+        ),
+    )?;
     extend(&mut list, back(choices, usize::from(outer.to)))?;
     Ok(list)
 }
 
-pub(crate) fn put(alloc: Global, choices: &[Choice], place: usize, choice: Choice) -> Result<Choices, NoMemory>
+pub(crate) fn put(
+    alloc: Global,
+    choices: &[Choice],
+    place: usize,
+    choice: Choice,
+) -> Result<Choices, NoMemory>
     ensures { IfOk result (λ list. list ≡ put_at place choice choices.now) }
 {
     let mut list = Choices::empty(alloc);
@@ -72,7 +100,12 @@ pub(crate) fn put(alloc: Global, choices: &[Choice], place: usize, choice: Choic
     Ok(list)
 }
 
-pub(crate) fn put_both(alloc: Global, choices: &[Choice], first: (usize, i128), second: (usize, i128)) -> Result<Choices, NoMemory>
+pub(crate) fn put_both(
+    alloc: Global,
+    choices: &[Choice],
+    first: (usize, i128),
+    second: (usize, i128),
+) -> Result<Choices, NoMemory>
     ensures { IfOk result (λ list. list ≡ edited choices.now (edit.PutBoth first.0 first.1 second.0 second.1)) }
 {
     let mut list = Choices::empty(alloc);
@@ -84,30 +117,60 @@ pub(crate) fn put_both(alloc: Global, choices: &[Choice], first: (usize, i128), 
     Ok(list)
 }
 
-pub(crate) fn swapped(alloc: Global, choices: &[Choice], one: Span, other: Span) -> Result<Choices, NoMemory>
+pub(crate) fn swapped(
+    alloc: Global,
+    choices: &[Choice],
+    one: Span,
+    other: Span,
+) -> Result<Choices, NoMemory>
     ensures { IfOk result (λ list. list ≡ swapped choices.now one other) }
 {
     let mut list = Choices::empty(alloc);
     extend(&mut list, front(choices, usize::from(one.from)))?;
-    extend(&mut list, back(front(choices, usize::from(other.to)), usize::from(other.from)))?;
-    extend(&mut list, back(front(choices, usize::from(other.from)), usize::from(one.to)))?;
-    extend(&mut list, back(front(choices, usize::from(one.to)), usize::from(one.from)))?;
+    extend(
+        &mut list,
+        back(
+            front(choices, usize::from(other.to)),
+            usize::from(other.from),
+        ),
+    )?;
+    extend(
+        &mut list,
+        back(front(choices, usize::from(other.from)), usize::from(one.to)),
+    )?;
+    extend(
+        &mut list,
+        back(front(choices, usize::from(one.to)), usize::from(one.from)),
+    )?;
     extend(&mut list, back(choices, usize::from(other.to)))?;
     Ok(list)
 }
 
-pub(crate) fn put_and_deleted(alloc: Global, choices: &[Choice], put: (usize, i128), span: Span) -> Result<Choices, NoMemory>
+pub(crate) fn put_and_deleted(
+    alloc: Global,
+    choices: &[Choice],
+    put: (usize, i128),
+    span: Span,
+) -> Result<Choices, NoMemory>
     ensures { IfOk result (λ list. list ≡ edited choices.now (edit.PutAndDelete put.0 put.1 span)) }
 {
     let mut list = Choices::empty(alloc);
     extend(&mut list, front(choices, put.0))?;
     list.push(Choice::Int(put.1))?;
-    extend(&mut list, behind(front(choices, usize::from(span.from)), put.0))?;
+    extend(
+        &mut list,
+        behind(front(choices, usize::from(span.from)), put.0),
+    )?;
     extend(&mut list, back(choices, usize::from(span.to)))?;
     Ok(list)
 }
 
-pub(crate) fn changed(alloc: Global, choices: &[Choice], place: usize, change: Change) -> Result<Choices, NoMemory>
+pub(crate) fn changed(
+    alloc: Global,
+    choices: &[Choice],
+    place: usize,
+    change: Change,
+) -> Result<Choices, NoMemory>
     ensures { IfOk result (λ list. list ≡ edited choices.now (edit.Change place change)) }
 {
     let choice = match choices.get(place) {
@@ -121,7 +184,11 @@ fn changed_choice(alloc: Global, given: &Choice, change: Change) -> Result<Choic
     ensures { IfOk result (λ choice. choice ≡ changed_choice change given.now) }
 {
     match given {
-        Choice::Bytes(octets) => Ok(Choice::Bytes(changed_octets(alloc, octets.as_slice(), change)?)),
+        Choice::Bytes(octets) => Ok(Choice::Bytes(changed_octets(
+            alloc,
+            octets.as_slice(),
+            change,
+        )?)),
         Choice::Text(octets) => Ok(Choice::Text(changed_octets(alloc, octets.as_slice(), change)?)),
         other => other.copy(),
     }

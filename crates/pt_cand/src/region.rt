@@ -17,5 +17,7 @@ pub(crate) fn is_new(span: Span, earlier: &[Span]) -> bool
 fn is_seen(span: Span, earlier: &[Span]) -> bool
     ensures { result ≡ list_any (same_ends span) earlier.now }
 {
-    earlier.iter().any(|other| span.from == other.from && span.to == other.to)
+    earlier
+        .iter()
+        .any(|other| span.from == other.from && span.to == other.to)
 }

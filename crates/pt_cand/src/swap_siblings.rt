@@ -70,7 +70,10 @@ pub(crate) fn find(best: &Record, at: Cursor) -> Option<Found>
     let spans = best.spans.as_slice();
     let one = spans[at.place];
     let other = next_sibling(one, &spans[at.place + 1..])?;
-    if one.label == other.label && one.to <= other.from && is_lower(best.choices.as_slice(), one, other) {
+    if one.label == other.label
+        && one.to <= other.from
+        && is_lower(best.choices.as_slice(), one, other)
+    {
         Some(Found {
             edit: Edit::Swap(one, other),
             next: Cursor::start(at.place + 1),

@@ -26,8 +26,11 @@ module _ (step : List Choice → Answer → Type 0) (budget : ℕ) where
   leaps-rejected seen first (head ∷ trail) strangers best entry next worse leads leaps = elim leaps [
     | inl s ↦
         let rest = leads-after_better step first head trail strangers best s.0 leads in
-        inl (s.0, subst (λ n. IsHeeded budget (seen ++ head.list ∷ []) first s.0.rec n) (sym (comes_next-push trail entry next)) s.1,
-        leaps-rejected (seen ++ head.list ∷ []) s.0.rec trail rest.0 best entry next worse rest.1 s.2)
+        inl (
+          s.0,
+          subst (λ n. IsHeeded budget (seen ++ head.list ∷ []) first s.0.rec n) (sym (comes_next-push trail entry next)) s.1,
+          leaps-rejected (seen ++ head.list ∷ []) s.0.rec trail rest.0 best entry next worse rest.1 s.2,
+        )
     | inr s ↦
         let rest = leads-after_worse step first head trail strangers best s.0 leads in
         inr (s.0, leaps-rejected (seen ++ head.list ∷ []) first trail rest.0 best entry next worse rest.1 s.1)
@@ -44,8 +47,11 @@ module _ (step : List Choice → Answer → Type 0) (budget : ℕ) where
       elim leaps [
         | inl s ↦
             let rest = leads-after_better step first head trail strangers best s.0 leads in
-            inl (s.0, subst (λ n. IsHeeded budget (seen ++ head.list ∷ []) first s.0.rec n) (sym (comes_next-push trail entry next)) s.1,
-            leaps-accepted (seen ++ head.list ∷ []) s.0.rec trail rest.0 best entry next better later rest.1 s.2)
+            inl (
+              s.0,
+              subst (λ n. IsHeeded budget (seen ++ head.list ∷ []) first s.0.rec n) (sym (comes_next-push trail entry next)) s.1,
+              leaps-accepted (seen ++ head.list ∷ []) s.0.rec trail rest.0 best entry next better later rest.1 s.2,
+            )
         | inr s ↦
             let rest = leads-after_worse step first head trail strangers best s.0 leads in
             inr (s.0, leaps-accepted (seen ++ head.list ∷ []) first trail rest.0 best entry next better later rest.1 s.1)

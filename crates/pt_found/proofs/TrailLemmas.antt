@@ -44,9 +44,9 @@ module _ (step : List Choice → Answer → Type 0) where
   leads-accepted first (entry ∷ trail) strangers best list better leads = elim leads [
     | inl step_ ↦ inl (step_.0, step_.1, leads-accepted step_.0.rec trail strangers best list better step_.2)
     | inr other ↦ elim other [
-        | inl step_ ↦ inr (inl (step_.0, step_.1, step_.2, leads-accepted first trail strangers best list better step_.3))
-        | inr step_ ↦ inr (inr (step_.0, step_.1, (step_.2.0, step_.2.1, leads-accepted first trail step_.2.0 best list better step_.2.2)))
-      ]
+      | inl step_ ↦ inr (inl (step_.0, step_.1, step_.2, leads-accepted first trail strangers best list better step_.3))
+      | inr step_ ↦ inr (inr (step_.0, step_.1, (step_.2.0, step_.2.1, leads-accepted first trail step_.2.0 best list better step_.2.2)))
+    ]
   ]
 
   pub leads-candidate : (first : Record) (trail : List Tried) (strangers : ℕ) (best : Record) (list : List Choice) → ¬ IsBetter step list best →
@@ -56,9 +56,9 @@ module _ (step : List Choice → Answer → Type 0) where
   leads-candidate first (entry ∷ trail) strangers best list worse candidate leads = elim leads [
     | inl step_ ↦ inl (step_.0, step_.1, leads-candidate step_.0.rec trail strangers best list worse candidate step_.2)
     | inr other ↦ elim other [
-        | inl step_ ↦ inr (inl (step_.0, step_.1, step_.2, leads-candidate first trail strangers best list worse candidate step_.3))
-        | inr step_ ↦ inr (inr (step_.0, step_.1, (step_.2.0, step_.2.1, leads-candidate first trail step_.2.0 best list worse candidate step_.2.2)))
-      ]
+      | inl step_ ↦ inr (inl (step_.0, step_.1, step_.2, leads-candidate first trail strangers best list worse candidate step_.3))
+      | inr step_ ↦ inr (inr (step_.0, step_.1, (step_.2.0, step_.2.1, leads-candidate first trail step_.2.0 best list worse candidate step_.2.2)))
+    ]
   ]
 
   pub leads-stranger : (first : Record) (trail : List Tried) (strangers : ℕ) (best : Record) (list : List Choice) → ¬ IsBetter step list best →
@@ -68,10 +68,17 @@ module _ (step : List Choice → Answer → Type 0) where
   leads-stranger first (entry ∷ trail) strangers best list worse leads = elim leads [
     | inl step_ ↦ inl (step_.0, step_.1, leads-stranger step_.0.rec trail strangers best list worse step_.2)
     | inr other ↦ elim other [
-        | inl step_ ↦ inr (inl (step_.0, step_.1, step_.2, leads-stranger first trail strangers best list worse step_.3))
-        | inr step_ ↦ inr (inr (step_.0, step_.1, (strangers, refl,
-            subst (λ n. Leads step first (trail ++ record { list = list; accepted = false } ∷ []) n best) (sym step_.2.1) (leads-stranger first trail step_.2.0 best list worse step_.2.2))))
-      ]
+      | inl step_ ↦ inr (inl (step_.0, step_.1, step_.2, leads-stranger first trail strangers best list worse step_.3))
+      | inr step_ ↦ inr (inr (
+        step_.0,
+        step_.1,
+        (
+          strangers,
+          refl,
+          subst (λ n. Leads step first (trail ++ record { list = list; accepted = false } ∷ []) n best) (sym step_.2.1) (leads-stranger first trail step_.2.0 best list worse step_.2.2),
+        ),
+      ))
+    ]
   ]
 
 pub lists-push : (trail : List Tried) (entry : Tried) → lists_of (trail ++ entry ∷ []) ≡ lists_of trail ++ entry.list ∷ []

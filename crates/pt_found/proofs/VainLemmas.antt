@@ -26,9 +26,9 @@ module _ (step : List Choice → Answer → Type 0) where
   leads-as_good first (entry ∷ trail) strangers best leads = elim leads [
     | inl s ↦ as_good-trans best s.0.rec first (leads-as_good s.0.rec trail strangers best s.2) (better-as_good step entry.list first s.0)
     | inr other ↦ elim other [
-        | inl s ↦ leads-as_good first trail strangers best s.3
-        | inr s ↦ leads-as_good first trail s.2.0 best s.2.2
-      ]
+      | inl s ↦ leads-as_good first trail strangers best s.3
+      | inr s ↦ leads-as_good first trail s.2.0 best s.2.2
+    ]
   ]
 
   -- a list that was tried in vain stays so
@@ -42,18 +42,18 @@ module _ (step : List Choice → Answer → Type 0) where
   leads-vain first [] strangers best leads list among = not_among list among
   leads-vain first (entry ∷ trail) strangers best leads list among = elim leads [
     | inl s ↦ elim (among_first entry.list (lists_of trail) list among) [
-        | inl same ↦ subst (λ l. ¬ IsBetter step l best) same
-            (no_better-below step entry.list s.0.rec best (leads-as_good s.0.rec trail strangers best s.2) (no_better-itself step entry.list s.0.rec s.0.is))
-        | inr later ↦ leads-vain s.0.rec trail strangers best s.2 list later
-      ]
+      | inl same ↦ subst (λ l. ¬ IsBetter step l best) same
+          (no_better-below step entry.list s.0.rec best (leads-as_good s.0.rec trail strangers best s.2) (no_better-itself step entry.list s.0.rec s.0.is))
+      | inr later ↦ leads-vain s.0.rec trail strangers best s.2 list later
+    ]
     | inr other ↦ elim other [
-        | inl s ↦ elim (among_first entry.list (lists_of trail) list among) [
-            | inl same ↦ passed first entry trail strangers best list same s.0 s.3
-            | inr later ↦ leads-vain first trail strangers best s.3 list later
-          ]
-        | inr s ↦ elim (among_first entry.list (lists_of trail) list among) [
-            | inl same ↦ passed first entry trail s.2.0 best list same s.0 s.2.2
-            | inr later ↦ leads-vain first trail s.2.0 best s.2.2 list later
-          ]
+      | inl s ↦ elim (among_first entry.list (lists_of trail) list among) [
+        | inl same ↦ passed first entry trail strangers best list same s.0 s.3
+        | inr later ↦ leads-vain first trail strangers best s.3 list later
       ]
+      | inr s ↦ elim (among_first entry.list (lists_of trail) list among) [
+        | inl same ↦ passed first entry trail s.2.0 best list same s.0 s.2.2
+        | inr later ↦ leads-vain first trail s.2.0 best s.2.2 list later
+      ]
+    ]
   ]

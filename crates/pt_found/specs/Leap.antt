@@ -40,7 +40,7 @@ abbrev pub LeapsFrom : (List Choice → Answer → Type 0) → ℕ → List (Lis
 LeapsFrom step budget tried best [] next = Unit {0}
 LeapsFrom step budget tried best (entry ∷ trail) next =
     ((better : IsBetter step entry.list best) × IsHeeded budget (tried ++ entry.list ∷ []) best better.rec (comes_next trail next)
-        × LeapsFrom step budget (tried ++ entry.list ∷ []) better.rec trail next)
+    × LeapsFrom step budget (tried ++ entry.list ∷ []) better.rec trail next)
     ⊎ ((¬ IsBetter step entry.list best) × LeapsFrom step budget (tried ++ entry.list ∷ []) best trail next)
 
 -- a finished trail leaps wherever it is to

@@ -8,13 +8,23 @@ use std::test::Fail;
 fn a_trail_has_each_list_once_and_in_order(rt: HostRuntime) -> Result<(), Fail> {
     let alloc = rt.alloc();
     let mut trail = Trail::empty(alloc);
-    for (text, accepted) in [("i0", false), ("i286", true), ("-", false), ("t1.2 x00", true)] {
+    for (text, accepted) in [
+        ("i0", false),
+        ("i286", true),
+        ("-", false),
+        ("t1.2 x00", true),
+    ] {
         let list = list_of(alloc, text).ok_or("a list")?;
         assert_eq!(rt; trail.has(&list), false, "{text}");
         trail.add(list, accepted)?;
     }
     assert_eq!(rt; trail.len(), 4);
-    for (place, text, want) in [(0, "i0", false), (1, "i286", true), (2, "-", false), (3, "t1.2 x00", true)] {
+    for (place, text, want) in [
+        (0, "i0", false),
+        (1, "i286", true),
+        (2, "-", false),
+        (3, "t1.2 x00", true),
+    ] {
         let list = list_of(alloc, text).ok_or("a list")?;
         assert_eq!(rt; trail.has(&list), true, "{text}");
         let (tried, accepted) = trail.at(place).ok_or("an entry")?;

@@ -1,4 +1,4 @@
-use Rattle.std.proofs.Common.{◌≡◌, ◌<◌, ◌≤◌, ◌+◌, ℕ, Some, None, [], ◌∷◌, nat_eq, take, drop, get_or, length, sym, ◌∙◌, ap, subst, arith, refl}
+use Rattle.std.proofs.Common.{◌<◌, ◌+◌, Some, None, [], ◌∷◌, take, drop, get_or, length, sym, ◌∙◌, ap, arith, refl}
 use Rattle.std.proofs.lemmas.Option.{slice_get-get_or}
 use Rattle.pt_case.specs.declared.span.Span.{Span}
 use Rattle.pt_cand.specs.Descend.{is_among}
@@ -32,7 +32,8 @@ loop-parent-preserved c =
     let reached = c.loop-parent.invariant.2 number is in
     let low : number < length c.args.best.now.spans = omega (arith, reached, c.requires) in
     let earlier = (c.args.best.now.placed number (get_or c.args.best.now.spans number e) (slice_get-get_or c.args.best.now.spans number e low)).earlier in
-    rw c.as_slice-spans.ensures
-        (refl,
-        (λ d. c.loop-parent.invariant.1 d ∙ ap (is_among known) is ∙ one_up c.args.outer c.args.best.now.spans c.args.inner e c.requires number c.if-number-outer.false reached earlier),
-        (λ k next. let less = earlier k next in omega (arith, less, reached)))
+    rw c.as_slice-spans.ensures (
+      refl,
+      (λ d. c.loop-parent.invariant.1 d ∙ ap (is_among known) is ∙ one_up c.args.outer c.args.best.now.spans c.args.inner e c.requires number c.if-number-outer.false reached earlier),
+      (λ k next. let less = earlier k next in omega (arith, less, reached)),
+    )

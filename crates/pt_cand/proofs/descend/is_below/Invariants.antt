@@ -10,7 +10,7 @@ abbrev pub invariant-loop-parent : goal.invariant-loop-parent
 invariant-loop-parent l =
     (l.spans ≡ l.best.spans)
     × ((d : Span) → is_among (known_after (l.outer ∷ []) (l.outer + 1) (take l.inner (drop (l.outer + 1) l.best.spans))) (get_or l.best.spans (l.outer + 1 + l.inner) d).parent
-        ≡ is_among (known_after (l.outer ∷ []) (l.outer + 1) (take l.inner (drop (l.outer + 1) l.best.spans))) l.parent)
+    ≡ is_among (known_after (l.outer ∷ []) (l.outer + 1) (take l.inner (drop (l.outer + 1) l.best.spans))) l.parent)
     × ((k : ℕ) → l.parent ≡ Some k → k < l.outer + 1 + l.inner)
 
 abbrev pub decreases-loop-parent : goal.decreases-loop-parent

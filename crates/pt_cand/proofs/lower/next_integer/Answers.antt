@@ -15,10 +15,10 @@ returns-then-not-is_repeat c =
     let fits : SFits w128 c.numbered.result = record { sfits = c.numbered.type_inv } in
     let low = to_z-of_z w128 c.numbered.result fits in
     let next = integer-new value c.args.looked c.loop-number.number c.numbered.result c.loop-number.invariant c.loop-number-test.true
-        (sym c.is_repeat.ensures ∙ c.if-not-is_repeat.true) c.numbered.ensures in
+    (sym c.is_repeat.ensures ∙ c.if-not-is_repeat.true) c.numbered.ensures in
     rw low (subst (λ v. once_after int_eq (v ∷ lower_integers v) c.args.looked ≡ c.numbered.result ∷ once_after int_eq (v ∷ lower_integers v) (c.loop-number.number + 1)) same next)
 
 pub loop-number-preserved : goal.loop-number-preserved
 loop-number-preserved c =
     integer-seen (to_z w128 (of_z w128 c.args.value)) c.args.looked c.loop-number.number c.loop-number.invariant c.loop-number-test.true
-        (sym c.is_repeat.ensures ∙ c.if-not-is_repeat.false)
+    (sym c.is_repeat.ensures ∙ c.if-not-is_repeat.false)

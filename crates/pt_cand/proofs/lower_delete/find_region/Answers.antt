@@ -1,4 +1,4 @@
-use Rattle.std.proofs.Common.{◌≡◌, ◌<◌, ◌≤◌, None, get_or, nat_lt, unsigned_abs, true, length, sym, ◌∙◌, subst, to_z, of_z, arith}
+use Rattle.std.proofs.Common.{◌≡◌, ◌<◌, ◌≤◌, None, get_or, unsigned_abs, true, length, sym, ◌∙◌, subst}
 use Rattle.std.proofs.lemmas.Bool.{lt-ltb}
 use Rattle.std.proofs.lemmas.Int.{to_z-of_z}
 use Rattle.std.proofs.lemmas.Option.{slice_get-get_or}
@@ -7,7 +7,6 @@ use mir.Val.{SFits}
 use Rattle.pt_choice.specs.Limits.{IsInLimits}
 use Rattle.pt_choice.specs.declared.choice.Choice.TheVariants as choice
 use Rattle.pt_case.specs.declared.span.Span.{Span}
-use Rattle.pt_cand.specs.Lower.{nearer}
 use Rattle.pt_cand.proofs.FindLemmas.{less-at_end, less-at_found}
 use Rattle.pt_cand.proofs.RegionLemmas.{is_own}
 use Rattle.pt_cand.proofs.lower_delete.find_region.Goals as goal
@@ -16,7 +15,7 @@ pub nearer-less-requires : goal.nearer-less-requires
 nearer-less-requires c =
     let d = choice.Int c.args.value in
     rw (to_z-of_z w128 c.args.value c.ranges.value)
-        (subst (λ member. IsInLimits member) (c.requires.given d) (c.args.best.now.in_limits c.args.at.place d c.requires.within))
+    (subst (λ member. IsInLimits member) (c.requires.given d) (c.args.best.now.in_limits c.args.at.place d c.requires.within))
 
 pub returns-then-is_new : goal.returns-then-is_new
 returns-then-is_new c =
@@ -32,8 +31,8 @@ returns-then-is_new c =
     let order = (c.args.best.now.placed c.loop-number.number (get_or spans c.loop-number.number e) (slice_get-get_or spans c.loop-number.number e low)).begins in
     let fits : SFits w128 c.nearer-less.result = record { sfits = c.nearer-less.type_inv } in
     rw (to_z-of_z w128 c.nearer-less.result fits, c.nearer-less.ensures, to_z-of_z w128 c.args.value c.ranges.value, here, c.past.ensures)
-        (c.loop-number.invariant.1
-        ∙ less-at_found c.args.best.now c.args.at d c.requires.within c.args.value (c.requires.given d) nonzero c.loop-number.number e low before order later own)
+    (c.loop-number.invariant.1
+    ∙ less-at_found c.args.best.now c.args.at d c.requires.within c.args.value (c.requires.given d) nonzero c.loop-number.number e low before order later own)
 
 pub returns : goal.returns
 returns c =
@@ -41,4 +40,4 @@ returns c =
     let nonzero = lt-ltb 0 (unsigned_abs c.args.value) c.requires.nonzero in
     c.loop-number.invariant.1
     ∙ less-at_end c.args.best.now c.args.at d c.requires.within c.args.value (c.requires.given d) nonzero c.loop-number.number
-        (subst (λ s. length s ≤ c.loop-number.number) c.as_slice-spans.ensures c.loop-number-test.false)
+    (subst (λ s. length s ≤ c.loop-number.number) c.as_slice-spans.ensures c.loop-number-test.false)

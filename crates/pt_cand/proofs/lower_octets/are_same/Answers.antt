@@ -1,4 +1,4 @@
-use Rattle.std.proofs.Common.{◌≡◌, ◌<◌, ℕ, length, ◌∙◌, sym, arith, rules, get_or}
+use Rattle.std.proofs.Common.{◌≡◌, length, ◌∙◌, sym, arith}
 use Rattle.std.specs.Cmp.Lexicographic.{bytes_decides}
 use Rattle.std.proofs.lemmas.List.{ext_get_or}
 use Rattle.pt_cand.specs.Edit.{changed}

@@ -1,4 +1,4 @@
-use Rattle.std.proofs.Common.{◌≡◌, ◌<◌, ◌≤◌, ℕ, ◌∙◌, sym, arith, rules}
+use Rattle.std.proofs.Common.{◌≤◌, ◌∙◌, sym, rules}
 use Rattle.pt_cand.proofs.OctetLemmas.{numbered-place}
 use Rattle.pt_cand.proofs.lower_octets.numbered.Goals as goal
 

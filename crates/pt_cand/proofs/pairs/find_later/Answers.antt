@@ -17,13 +17,13 @@ returns-in-Some c =
     let first_fits : SFits w128 c.in-Some.pair.0 = search rules in
     let second_fits : SFits w128 c.in-Some.pair.1 = search rules in
     let found : slice_get (moved_by c.args.together c.args.one c.in-Int.other) c.loop-inner.slot ≡ Some c.in-Some.pair =
-        ap (λ v. slice_get (moved_by c.args.together v c.in-Int.other) c.loop-inner.slot) (sym one)
-        ∙ ap (λ v. slice_get (moved_by c.args.together (to_z w128 (of_z w128 c.args.one)) v) c.loop-inner.slot) (sym other) ∙ sym c.moved.ensures ∙ c.in-Some.is in
+    ap (λ v. slice_get (moved_by c.args.together v c.in-Int.other) c.loop-inner.slot) (sym one)
+    ∙ ap (λ v. slice_get (moved_by c.args.together (to_z w128 (of_z w128 c.args.one)) v) c.loop-inner.slot) (sym other) ∙ sym c.moved.ensures ∙ c.in-Some.is in
     let low : c.args.at.place + 1 + c.loop-inner.inner < length c.args.choices.now = omega (arith, c.loop-inner-test.true) in
     rw (to_z-of_z w128 c.in-Some.pair.0 first_fits, to_z-of_z w128 c.in-Some.pair.1 second_fits)
-        (c.loop-inner.invariant
-        ∙ pairs-here (moved_by c.args.together) c.args.choices.now c.args.at.place d c.requires.within c.loop-inner.inner c.loop-inner.slot c.args.one c.in-Int.other c.in-Some.pair
-            (c.requires.given d) (sym c.index-choices-second.is ∙ c.in-Int.is) low found)
+    (c.loop-inner.invariant
+    ∙ pairs-here (moved_by c.args.together) c.args.choices.now c.args.at.place d c.requires.within c.loop-inner.inner c.loop-inner.slot c.args.one c.in-Int.other c.in-Some.pair
+    (c.requires.given d) (sym c.index-choices-second.is ∙ c.in-Int.is) low found)
 
 pub loop-inner-preserved : goal.loop-inner-preserved
 loop-inner-preserved c =
@@ -35,15 +35,15 @@ loop-inner-preserved c =
           let fits : SFits w128 w.in-Int.other = search rules in
           let other = to_z-of_z w128 w.in-Int.other fits in
           let none : slice_get (moved_by c.args.together c.args.one w.in-Int.other) c.loop-inner.slot ≡ None =
-              ap (λ v. slice_get (moved_by c.args.together v w.in-Int.other) c.loop-inner.slot) (sym one)
-              ∙ ap (λ v. slice_get (moved_by c.args.together (to_z w128 (of_z w128 c.args.one)) v) c.loop-inner.slot) (sym other) ∙ sym w.moved.ensures ∙ w.in_default-moved.is in
+          ap (λ v. slice_get (moved_by c.args.together v w.in-Int.other) c.loop-inner.slot) (sym one)
+          ∙ ap (λ v. slice_get (moved_by c.args.together (to_z w128 (of_z w128 c.args.one)) v) c.loop-inner.slot) (sym other) ∙ sym w.moved.ensures ∙ w.in_default-moved.is in
           c.loop-inner.invariant
           ∙ pairs-over (moved_by c.args.together) c.args.choices.now c.args.at.place d c.requires.within c.loop-inner.inner c.loop-inner.slot c.args.one w.in-Int.other
-              (c.requires.given d) (sym c.index-choices-second.is ∙ w.in-Int.is) low none
+          (c.requires.given d) (sym c.index-choices-second.is ∙ w.in-Int.is) low none
       | in_default w ↦
           c.loop-inner.invariant
           ∙ pairs-other (moved_by c.args.together) c.args.choices.now c.args.at.place d c.requires.within c.loop-inner.inner c.loop-inner.slot c.args.one
-              (c.requires.given d) (λ value is. w.in_default.not-Int value (c.index-choices-second.is ∙ is)) low
+          (c.requires.given d) (λ value is. w.in_default.not-Int value (c.index-choices-second.is ∙ is)) low
     ]
 
 pub returns : goal.returns

@@ -1,9 +1,9 @@
-use Rattle.std.proofs.Common.{◌≡◌, ◌<◌, ◌≤◌, ◌+◌, None, get_or, length, sym, ◌∙◌, ap, subst, drop}
+use Rattle.std.proofs.Common.{◌≤◌, ◌+◌, None, get_or, sym, ◌∙◌, ap, subst, drop}
 use Rattle.std.specs.List.{find}
 use Rattle.std.proofs.lemmas.List.{take_rest}
 use Rattle.std.proofs.lemmas.Option.{slice_get-get_or}
 use Rattle.pt_case.specs.declared.span.Span.{Span}
-use Rattle.pt_cand.specs.SwapSiblings.{are_siblings, InOrder}
+use Rattle.pt_cand.specs.SwapSiblings.{are_siblings}
 use Rattle.pt_cand.proofs.SwapLemmas.{later-placed}
 use Rattle.pt_cand.proofs.swap_siblings.find.Goals as goal
 

@@ -1,4 +1,4 @@
-use Rattle.std.proofs.Common.{◌≡◌, ◌≤◌, ◌∙◌, sym, ap, drop, arith}
+use Rattle.std.proofs.Common.{◌≤◌, ◌∙◌, ap, drop, arith}
 use Rattle.pt_cand.specs.Edit.{edited}
 use Rattle.pt_cand.specs.Left.{left_of}
 use Rattle.pt_cand.proofs.WalkLemmas.{passed-more, passed-all}
@@ -16,4 +16,4 @@ loop-preserved c =
     let all = left_of c.self.inside.pass c.self.inside.best.now c.self.inside.cursor in
     let left = left_of c.loop.self-inside.pass c.loop.self-inside.best.now c.loop.self-inside.cursor in
     passed-more all left c.loop.counter c.loop.invariant (edited c.loop.self-inside.best.now.choices c.in-Some.found.edit)
-        (left_of c.loop.self-inside.pass c.loop.self-inside.best.now c.in-Some.found.next) c.in-Some.ensures
+    (left_of c.loop.self-inside.pass c.loop.self-inside.best.now c.in-Some.found.next) c.in-Some.ensures
