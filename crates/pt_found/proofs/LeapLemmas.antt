@@ -1,6 +1,7 @@
 -- One more entry at the end of a trail that leaps.
-use Rattle.std.proofs.Common.{◌≡◌, ℕ, Option, Some, List, [], ◌∷◌, ◌++◌, sym, refl, subst, inl, inr}
-use Rattle.std.proofs.lemmas.List.{append_assoc}
+use Rattle.std.proofs.Common.{◌≡◌, ◌⊎◌, ◌≤◌, ℕ, Bool, true, false, Option, Some, None, List, [], ◌∷◌, ◌++◌, sym, ap, ◌∙◌, refl, subst, inl, inr}
+use Rattle.std.specs.List.{Contains}
+use Rattle.std.proofs.lemmas.List.{append_assoc, append-nil}
 use Rattle.pt_choice.specs.declared.choice.Choice.{Choice}
 use Rattle.pt_case.specs.Step.{Answer}
 use Rattle.pt_case.specs.Better.{IsBetter}

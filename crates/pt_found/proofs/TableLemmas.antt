@@ -1,12 +1,12 @@
 -- A trail as the table that keeps it.
-use Rattle.std.proofs.Common.{◌≡◌, ◌<◌, suc, Bool, true, false, cond, Option, Some, None, List, [], ◌∷◌, ◌++◌, length, is_some, sym, refl, inl, inr, arith}
+use Rattle.std.proofs.Common.{◌≡◌, ◌⊎◌, ◌<◌, ℕ, suc, Bool, true, false, cond, Option, Some, None, List, [], ◌∷◌, ◌++◌, map, length, is_some, sym, ap, ◌∙◌, refl, subst, inl, inr, arith}
 use Rattle.std.specs.List.{Contains}
 use Rattle.std.specs.Map.{lookup}
 use Rattle.std.proofs.lemmas.List.{map-append}
 use Rattle.pt_choice.specs.declared.choice.Choice.{Choice}
 use Rattle.pt_choice.specs.Same.{same_choices}
 use Rattle.pt_choice.proofs.SameLemmas.{same_choices-decides}
-use Rattle.pt_found.specs.Tried.{tried_in}
+use Rattle.pt_found.specs.Tried.{Tried, tried_in}
 use Rattle.pt_found.specs.Trail.{lists_of}
 use Rattle.pt_found.proofs.VainLemmas.{among_first, not_among}
 

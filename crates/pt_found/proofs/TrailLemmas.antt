@@ -1,6 +1,6 @@
 -- One more entry at the end of a trail.
-use Rattle.std.proofs.Common.{◌≡◌, ◌<◌, take, drop, get_or, ℕ, suc, ◌+◌, true, false, cond, List, [], ◌∷◌, ◌++◌, length, sym, ap, ◌∙◌, refl, subst, inl, inr, arith}
-use Rattle.std.specs.List.{Contains}
+use Rattle.std.proofs.Common.{◌≡◌, ◌⊎◌, ◌≤◌, ◌<◌, take, drop, get_or, ℕ, suc, ◌+◌, ◌*◌, Bool, true, false, cond, List, [], ◌∷◌, ◌++◌, map, length, sym, ap, ◌∙◌, refl, subst, inl, inr, arith}
+use Rattle.std.specs.List.{Contains, count_by, sum_by}
 use Rattle.std.proofs.lemmas.List.{map-append, append_assoc, append-nil, drop_more, take-append-drop}
 use Rattle.std.proofs.lemmas.List.Sums.{sum_by-append}
 use Rattle.pt_choice.specs.declared.choice.Choice.{Choice}

@@ -1,5 +1,5 @@
 -- The entries of a trail.
-use Rattle.std.specs.Prelude.{Bool, List, map}
+use Rattle.std.specs.Prelude.{◌≡◌, ◌≤◌, Bool, Option, Some, None, List, map, length, slice_get}
 use Rattle.pt_choice.specs.declared.choice.Choice.{Choice}
 
 -- a list that was tried, and whether its record became the best one
