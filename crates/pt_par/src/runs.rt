@@ -1,0 +1,114 @@
+ghost use Rattle.std.specs.Prelude.{◌≡◌, ◌+◌, ◌*◌, ◌++◌, ◌<◌, ◌≤◌, ℕ, min, length, IfOk, OnOk, vec_len, slice_index_or};
+ghost use Rattle.pt_case.specs.Runs.{AreRuns};
+
+use pt_case::{Check, Record, Records, fresh};
+use pt_choice::NoMemory;
+use std::alloc::Global;
+use std::thread;
+use std::thread::Threads;
+
+/// The records of the runs `from` up to but without `to`, in order, made by so many workers.
+pub fn batch<R: Threads + Sync, C: Check>(
+    rt: &R,
+    alloc: Global,
+    check: &C,
+    seed: u64,
+    from: u64,
+    to: u64,
+    workers: u32,
+) -> Result<Records, NoMemory>
+    requires in_order { from ≤ to }
+    requires few { to ≤ from + 1024 }
+    requires workers { (1 ≤ workers) × (workers ≤ 16) }
+    ensures { IfOk result (λ records. AreRuns (C.step check.now) seed from to records) }
+{
+    let size = (to - from).div_ceil(u64::from(workers));
+    let made = |worker: usize| -> Result<Vec<Record>, NoMemory>
+        requires { (from ≤ to) × (to ≤ from + 1024) × (size ≤ 1024) × (worker < 16) }
+        ensures { IfOk result (λ made. AreRuns (C.step check.entry.now) seed (min to (from + worker * size)) (min to (from + (worker + 1) * size)) made.items) }
+    { share(alloc, check, seed, from, to, size, worker) };
+    let shares = thread::map_indices(rt, alloc, workers as usize, &made)?;
+    gathered(alloc, check, seed, from, to, size, shares)
+}
+
+// Where a worker's share of the runs begins.
+fn start(from: u64, to: u64, size: u64, worker: usize) -> u64
+    requires { (from ≤ to) × (to ≤ from + 1024) × (size ≤ 1024) × (worker ≤ 16) }
+    ensures { result ≡ min to (from + worker * size) }
+{
+    let before = worker as u64 * size;
+    if before < to - from {
+        from + before
+    } else {
+        to
+    }
+}
+
+// The runs of one worker's share.
+fn share<C: Check>(
+    alloc: Global,
+    check: &C,
+    seed: u64,
+    from: u64,
+    to: u64,
+    size: u64,
+    worker: usize,
+) -> Result<Vec<Record>, NoMemory>
+    requires { (from ≤ to) × (to ≤ from + 1024) × (size ≤ 1024) × (worker < 16) }
+    ensures { IfOk result (λ made. AreRuns (C.step check.now) seed (min to (from + worker * size)) (min to (from + (worker + 1) * size)) made.items) }
+{
+    let first = start(from, to, size, worker);
+    let end = start(from, to, size, worker + 1);
+    made_from(alloc, check, seed, first, end)
+}
+
+// The records of the runs from the one number up to but without the other.
+fn made_from<C: Check>(
+    alloc: Global,
+    check: &C,
+    seed: u64,
+    from: u64,
+    to: u64,
+) -> Result<Vec<Record>, NoMemory>
+    requires { from ≤ to }
+    ensures { IfOk result (λ made. AreRuns (C.step check.now) seed from to made.items) }
+{
+    let mut made = Vec::new(alloc);
+    for run in from..to {
+        made.push(fresh(alloc, check, seed, run)?)?;
+    }
+    Ok(made)
+}
+
+// The shares one after another.
+fn gathered<C: Check>(
+    alloc: Global,
+    check: &C,
+    seed: u64,
+    from: u64,
+    to: u64,
+    size: u64,
+    shares: Vec<Result<Vec<Record>, NoMemory>>,
+) -> Result<Records, NoMemory>
+    requires in_order { from ≤ to }
+    requires all { to ≤ from + vec_len shares * size }
+    requires each { (i : ℕ) (d : _) → i < vec_len shares → IfOk (slice_index_or shares.items i d) (λ made.
+        AreRuns (C.step check.now) seed (min to (from + i * size)) (min to (from + (i + 1) * size)) made.items) }
+    ensures { IfOk result (λ records. AreRuns (C.step check.now) seed from to records) }
+{
+    let mut records = Records::empty(alloc);
+    for made in shares {
+        append(&mut records, made?)?;
+    }
+    Ok(records)
+}
+
+// The records so far, and after them those of a share.
+fn append(records: &mut Records, made: Vec<Record>) -> Result<(), NoMemory>
+    ensures { OnOk result (records.new ≡ records.old ++ made.items) }
+{
+    for rec in made {
+        records.push(rec)?;
+    }
+    Ok(())
+}
