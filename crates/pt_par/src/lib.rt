@@ -7,6 +7,7 @@ mod hit;
 mod runs;
 mod search;
 mod sharing;
+mod word;
 
 pub use hit::Hit;
 pub use runs::batch;

@@ -7,7 +7,14 @@ use std::alloc::Global;
 use std::thread;
 use std::thread::Threads;
 
-/// The records of the runs `from` up to but without `to`, in order, made by so many workers.
+/// The records of the runs `from` up to but without `to`, in order, whatever the number of workers.
+///
+/// Runs are numbered from 0, and those of one seed are the same in every call. A worker has a stretch of them, and none is
+/// started for an empty one.
+///
+/// # Errors
+///
+/// `NoMemory` where memory ran out, and for no other reason.
 pub fn batch<R: Threads + Sync, C: Check>(
     rt: &R,
     alloc: Global,
@@ -22,13 +29,35 @@ pub fn batch<R: Threads + Sync, C: Check>(
     requires workers { (1 ≤ workers) × (workers ≤ 16) }
     ensures { IfOk result (λ records. AreRuns (C.step check.now) seed from to records) }
 {
-    let size = (to - from).div_ceil(u64::from(workers));
+    let size = share_size(to - from, u64::from(workers));
+    let count = share_count(to - from, size, u64::from(workers));
     let made = |worker: usize| -> Result<Vec<Record>, NoMemory>
         requires { (from ≤ to) × (to ≤ from + 1024) × (size ≤ 1024) × (worker < 16) }
         ensures { IfOk result (λ made. AreRuns (C.step check.entry.now) seed (min to (from + worker * size)) (min to (from + (worker + 1) * size)) made.items) }
     { share(alloc, check, seed, from, to, size, worker) };
-    let shares = thread::map_indices(rt, alloc, workers as usize, &made)?;
+    let shares = thread::map_indices(rt, alloc, count as usize, &made)?;
     gathered(alloc, check, seed, from, to, size, shares)
+}
+
+// How many runs a worker's share has, but for the last one, which may have fewer.
+fn share_size(runs: u64, workers: u64) -> u64
+    requires some { 1 ≤ workers }
+    requires few { runs ≤ 1024 }
+    ensures within { (1 ≤ result) × (result ≤ 1024) }
+    ensures enough { runs ≤ workers * result }
+{
+    runs.div_ceil(workers).max(1)
+}
+
+// How many shares of this size the runs fill, the last one maybe not to its end.
+fn share_count(runs: u64, size: u64, workers: u64) -> u64
+    requires some { 1 ≤ size }
+    requires enough { runs ≤ workers * size }
+    ensures few { result ≤ workers }
+    ensures enough { runs ≤ result * size }
+    ensures none_empty { result * size < runs + size }
+{
+    runs.div_ceil(size)
 }
 
 // Where a worker's share of the runs begins.

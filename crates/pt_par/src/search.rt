@@ -1,36 +1,28 @@
 ghost use Rattle.std.specs.Prelude.{◌≡◌, ◌↔◌, ◌<◌, ◌≤◌, ◌%◌, ◌⊎◌, ℕ, true, length, Option, Some, None, IfOk, IsTrue, vec_len, slice_index_or};
 ghost use Rattle.pt_choice.specs.Order.{IsShorter};
 ghost use Rattle.pt_case.specs.Ending.{is_failure};
-ghost use Rattle.pt_par.specs.Least.{IsBetterAt, IsBetterRecord, IsLeast, IsEarlier, MayHold, Covers};
+ghost use Rattle.pt_par.specs.Least.{IsBetterRecord, IsLeast, IsEarlier, MayHold, Covers};
 
 use crate::Hit;
+use crate::word::{Lowest, Word, lower};
 use pt_case::{Check, ChoiceLists, Record, a_list_has_one_record, replay};
 use pt_choice::{Choices, NoMemory, shortlex};
 use std::alloc::Global;
 use std::cmp::Ordering::Less;
-use std::marker::{Brand, PhantomData};
+use std::marker::Brand;
+use std::sync::atomic::AtomicIn;
 use std::sync::atomic::Ordering::SeqCst;
-use std::sync::atomic::{AtomicIn, Rule};
 use std::thread;
 use std::thread::Threads;
 
-// What the word may hold that the workers of one block share.
-trait Word {
-    ghost may_hold: { ℕ → Type 0 };
-}
-
-impl Word for Brand {
-    ghost may_hold = { λ word. Unit {0} };
-}
-
-// The rule of the shared word.
-struct Lowest<W: Word>(PhantomData<W>);
-
-impl<W: Word> Rule for Lowest<W> {
-    ghost invariant = { λ word. W.may_hold word };
-}
-
-/// The least place whose list is better, with its record; None exactly where none is.
+/// The least place whose list is better than a record that fails, with the list's record; none exactly where none is.
+///
+/// The answer is that of one worker. How many lists after that place are replayed as well depends on the workers: one worker replays
+/// none, and several pass over what they know to be higher.
+///
+/// # Errors
+///
+/// `NoMemory` where memory ran out, and for no other reason.
 pub fn first_better<R: Threads + Sync, C: Check>(
     rt: &R,
     alloc: Global,
@@ -44,9 +36,11 @@ pub fn first_better<R: Threads + Sync, C: Check>(
     requires workers { (1 ≤ workers) × (workers ≤ 16) }
     ensures { IfOk result (λ hit. IsLeast (C.step check.now) best.now lists.now hit) }
 {
-    searched::<R, C, Brand>(rt, alloc, check, best, lists, workers as usize)
+    let workers = (workers as usize).min(lists.len().max(1));
+    searched::<R, C, Brand>(rt, alloc, check, best, lists, workers)
 }
 
+// The same, where the rule of the word is what may be said of these lists.
 fn searched<R: Threads + Sync, C: Check, W: Word + Sync>(
     rt: &R,
     alloc: Global,
@@ -99,23 +93,6 @@ fn share<C: Check, W: Word + Sync>(
         }
     }
     Ok(None)
-}
-
-// Puts the place of a better list into the word, if it is lower than what stands there. It is tried once.
-fn lower<C: Check, W: Word + Sync>(
-    check: &C,
-    best: &Record,
-    lists: &ChoiceLists,
-    word: &AtomicIn<Lowest<W>>,
-    place: usize,
-)
-    requires rule { (word : ℕ) → W.may_hold word ↔ MayHold (C.step check.now) best.now lists.now word }
-    requires better { IsBetterAt (C.step check.now) best.now lists.now place }
-{
-    let seen = word.load(SeqCst);
-    if (place as u64) < seen {
-        let _ = word.compare_exchange(seen, place as u64, SeqCst, SeqCst);
-    }
 }
 
 // The list's record, if the list is better.
