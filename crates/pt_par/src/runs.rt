@@ -1,5 +1,6 @@
 ghost use Rattle.std.specs.Prelude.{◌≡◌, ◌+◌, ◌*◌, ◌++◌, ◌<◌, ◌≤◌, ℕ, min, length, IfOk, OnOk, vec_len, slice_index_or};
 ghost use Rattle.pt_case.specs.Runs.{AreRuns};
+ghost use Rattle.pt_par.specs.Stretch.{IsStretch};
 
 use pt_case::{Check, Record, Records, fresh};
 use pt_choice::NoMemory;
@@ -9,8 +10,8 @@ use std::thread::Threads;
 
 /// The records of the runs `from` up to but without `to`, in order, whatever the number of workers.
 ///
-/// Runs are numbered from 0, and those of one seed are the same in every call. A worker has a stretch of them, and none is
-/// started for an empty one.
+/// Runs are numbered from 0, and those of one seed are the same in every call. A worker makes a stretch of them, and none
+/// is started for an empty one.
 ///
 /// # Errors
 ///
@@ -33,7 +34,7 @@ pub fn batch<R: Threads + Sync, C: Check>(
     let count = share_count(to - from, size, u64::from(workers));
     let made = |worker: usize| -> Result<Vec<Record>, NoMemory>
         requires { (from ≤ to) × (to ≤ from + 1024) × (size ≤ 1024) × (worker < 16) }
-        ensures { IfOk result (λ made. AreRuns (C.step check.entry.now) seed (min to (from + worker * size)) (min to (from + (worker + 1) * size)) made.items) }
+        ensures { IfOk result (λ made. IsStretch (C.step check.entry.now) seed from to size worker made.items) }
     { share(alloc, check, seed, from, to, size, worker) };
     let shares = thread::map_indices(rt, alloc, count as usize, &made)?;
     gathered(alloc, check, seed, from, to, size, shares)
@@ -84,7 +85,7 @@ fn share<C: Check>(
     worker: usize,
 ) -> Result<Vec<Record>, NoMemory>
     requires { (from ≤ to) × (to ≤ from + 1024) × (size ≤ 1024) × (worker < 16) }
-    ensures { IfOk result (λ made. AreRuns (C.step check.now) seed (min to (from + worker * size)) (min to (from + (worker + 1) * size)) made.items) }
+    ensures { IfOk result (λ made. IsStretch (C.step check.now) seed from to size worker made.items) }
 {
     let first = start(from, to, size, worker);
     let end = start(from, to, size, worker + 1);
@@ -122,7 +123,7 @@ fn gathered<C: Check>(
     requires in_order { from ≤ to }
     requires all { to ≤ from + vec_len shares * size }
     requires each { (i : ℕ) (d : _) → i < vec_len shares → IfOk (slice_index_or shares.items i d) (λ made.
-        AreRuns (C.step check.now) seed (min to (from + i * size)) (min to (from + (i + 1) * size)) made.items) }
+        IsStretch (C.step check.now) seed from to size i made.items) }
     ensures { IfOk result (λ records. AreRuns (C.step check.now) seed from to records) }
 {
     let mut records = Records::empty(alloc);

@@ -17,8 +17,8 @@ use std::thread::Threads;
 
 /// The least place whose list is better than a record that fails, with the list's record; none exactly where none is.
 ///
-/// The answer is that of one worker. How many lists after that place are replayed as well depends on the workers: one worker replays
-/// none, and several pass over what they know to be higher.
+/// The answer is that of one worker. How many lists after that place are replayed as well depends on the workers: one
+/// worker replays none, and several pass over what they know to be higher.
 ///
 /// # Errors
 ///
@@ -65,8 +65,8 @@ fn searched<R: Threads + Sync, C: Check, W: Word + Sync>(
     least(check, best, lists, shares)
 }
 
-// One worker's share: the places whose remainder by the number of workers is the worker's number, up to the first that is a hit.
-// A place is passed over where the word says that a lower one is better.
+// One worker's share: the places whose remainder by the number of workers is the worker's number, up to its first better
+// list. A place is passed over where the word says that a lower one is better.
 fn share<C: Check, W: Word + Sync>(
     alloc: Global,
     check: &C,
