@@ -1,0 +1,144 @@
+ghost use Rattle.std.specs.Prelude.{◌≡◌, ◌+◌, ◌*◌, ◌++◌, ◌<◌, ◌≤◌, ℕ, min, length, IfOk, OnOk, vec_len, slice_index_or};
+ghost use Rattle.pt_case.specs.Runs.{AreRuns};
+ghost use Rattle.pt_par.specs.Stretch.{IsStretch};
+
+use pt_case::{Check, Record, Records, fresh};
+use pt_choice::NoMemory;
+use std::alloc::Global;
+use std::thread;
+use std::thread::Threads;
+
+/// The records of the runs `from` up to but without `to`, in order, whatever the number of workers.
+///
+/// Runs are numbered from 0, and those of one seed are the same in every call. A worker makes a stretch of them, and none
+/// is started for an empty one.
+///
+/// # Errors
+///
+/// `NoMemory` where memory ran out, and for no other reason.
+pub fn batch<R: Threads + Sync, C: Check>(
+    rt: &R,
+    alloc: Global,
+    check: &C,
+    seed: u64,
+    from: u64,
+    to: u64,
+    workers: u32,
+) -> Result<Records, NoMemory>
+    requires in_order { from ≤ to }
+    requires few { to ≤ from + 1024 }
+    requires workers { (1 ≤ workers) × (workers ≤ 16) }
+    ensures { IfOk result (λ records. AreRuns (C.step check.now) seed from to records) }
+{
+    let size = share_size(to - from, u64::from(workers));
+    let count = share_count(to - from, size, u64::from(workers));
+    let made = |worker: usize| -> Result<Vec<Record>, NoMemory>
+        requires { (from ≤ to) × (to ≤ from + 1024) × (size ≤ 1024) × (worker < 16) }
+        ensures { IfOk result (λ made. IsStretch (C.step check.entry.now) seed from to size worker made.items) }
+    { share(alloc, check, seed, from, to, size, worker) };
+    let shares = thread::map_indices(rt, alloc, count as usize, &made)?;
+    gathered(alloc, check, seed, from, to, size, shares)
+}
+
+// How many runs a worker's share has, but for the last one, which may have fewer.
+fn share_size(runs: u64, workers: u64) -> u64
+    requires some { 1 ≤ workers }
+    requires few { runs ≤ 1024 }
+    ensures within { (1 ≤ result) × (result ≤ 1024) }
+    ensures enough { runs ≤ workers * result }
+{
+    runs.div_ceil(workers).max(1)
+}
+
+// How many shares of this size the runs fill, the last one maybe not to its end.
+fn share_count(runs: u64, size: u64, workers: u64) -> u64
+    requires some { 1 ≤ size }
+    requires enough { runs ≤ workers * size }
+    ensures few { result ≤ workers }
+    ensures enough { runs ≤ result * size }
+    ensures none_empty { result * size < runs + size }
+{
+    runs.div_ceil(size)
+}
+
+// Where a worker's share of the runs begins.
+fn start(from: u64, to: u64, size: u64, worker: usize) -> u64
+    requires { (from ≤ to) × (to ≤ from + 1024) × (size ≤ 1024) × (worker ≤ 16) }
+    ensures { result ≡ min to (from + worker * size) }
+{
+    let before = worker as u64 * size;
+    if before < to - from {
+        from + before
+    } else {
+        to
+    }
+}
+
+// The runs of one worker's share.
+fn share<C: Check>(
+    alloc: Global,
+    check: &C,
+    seed: u64,
+    from: u64,
+    to: u64,
+    size: u64,
+    worker: usize,
+) -> Result<Vec<Record>, NoMemory>
+    requires { (from ≤ to) × (to ≤ from + 1024) × (size ≤ 1024) × (worker < 16) }
+    ensures { IfOk result (λ made. IsStretch (C.step check.now) seed from to size worker made.items) }
+{
+    let first = start(from, to, size, worker);
+    let end = start(from, to, size, worker + 1);
+    made_from(alloc, check, seed, first, end)
+}
+
+// The records of the runs from the one number up to but without the other.
+fn made_from<C: Check>(
+    alloc: Global,
+    check: &C,
+    seed: u64,
+    from: u64,
+    to: u64,
+) -> Result<Vec<Record>, NoMemory>
+    requires { from ≤ to }
+    ensures { IfOk result (λ made. AreRuns (C.step check.now) seed from to made.items) }
+{
+    let mut made = Vec::new(alloc);
+    for run in from..to {
+        made.push(fresh(alloc, check, seed, run)?)?;
+    }
+    Ok(made)
+}
+
+// The shares one after another.
+fn gathered<C: Check>(
+    alloc: Global,
+    check: &C,
+    seed: u64,
+    from: u64,
+    to: u64,
+    size: u64,
+    shares: Vec<Result<Vec<Record>, NoMemory>>,
+) -> Result<Records, NoMemory>
+    requires in_order { from ≤ to }
+    requires all { to ≤ from + vec_len shares * size }
+    requires each { (i : ℕ) (d : _) → i < vec_len shares → IfOk (slice_index_or shares.items i d) (λ made.
+        IsStretch (C.step check.now) seed from to size i made.items) }
+    ensures { IfOk result (λ records. AreRuns (C.step check.now) seed from to records) }
+{
+    let mut records = Records::empty(alloc);
+    for made in shares {
+        append(&mut records, made?)?;
+    }
+    Ok(records)
+}
+
+// The records so far, and after them those of a share.
+fn append(records: &mut Records, made: Vec<Record>) -> Result<(), NoMemory>
+    ensures { OnOk result (records.new ≡ records.old ++ made.items) }
+{
+    for rec in made {
+        records.push(rec)?;
+    }
+    Ok(())
+}

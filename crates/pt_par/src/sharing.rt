@@ -1,0 +1,6 @@
+use crate::Hit;
+use pt_choice::may_be_shared;
+
+fn workers_share_them() {
+    may_be_shared::<Hit>();
+}
