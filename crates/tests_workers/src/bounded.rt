@@ -41,15 +41,15 @@ impl Check for Bounded {
 
     fn run(&self, case: &mut Case) -> Result<Ending, NoMemory> {
         self.meeting.attend();
-        ending_of(draws_bounded(self.bound, case))
+        ending_of(draws_bounded(&self.bound, case))
     }
 }
 
-fn draws_bounded(bound: i128, case: &mut Case) -> Result<Ending, DrawStop>
-    ensures drew { Drew draw_halt (bounded_plan bound) case.old case.new result }
+fn draws_bounded(bound: &i128, case: &mut Case) -> Result<Ending, DrawStop>
+    ensures drew { Drew draw_halt (bounded_plan bound.now) case.old case.new result }
     ensures settles { Settles result }
 {
-    if ask_integer(case, 0, 1000)? < bound {
+    if ask_integer(case, 0, 1000)? < *bound {
         return Ok(Ending::Pass);
     }
     Err(DrawStop::Fault(Origin::Point(1)))
