@@ -1,0 +1,10 @@
+pub mod Gaps
+pub mod Lexing
+pub mod Marks
+pub mod Numbers
+pub mod Places
+pub mod Texts
+pub mod Tokens
+pub mod Words
+pub mod Outcome
+pub mod reading

@@ -1,0 +1,5 @@
+pub mod Gap
+pub mod Mark
+pub mod Number
+pub mod Text
+pub mod Word
