@@ -9,7 +9,7 @@ use crate::sample::Sample::{
     Post, Prod, Sum, Text, Tuple, Var,
 };
 use crate::sample::Taken::{Index, Part};
-use crate::sample::{at, made, name};
+use crate::sample::{After, at, made, name};
 use pt_ast::CompareOp::{Eq, Lt};
 use pt_ast::Func::{Has, Label, Labels, Leaf, Len, Node, Rev};
 use pt_ast::Op::{Add, Div, Mul, Sub};
@@ -23,9 +23,12 @@ use std::alloc::Global;
 /// Expressions of numbers with what they cost, which is the value's 1 and its size, and what the parts cost.
 const COSTS: [(Sample, u32); 24] = [
     (Num(7), 2),
-    (Sum(&Num(1), &[(3, Add, Num(2))]), 6),
-    (Sum(&Num(1), &[(3, Add, Num(2)), (7, Sub, Num(3))]), 10),
-    (Prod(&Num(2), &[(3, Mul, Num(2))]), 6),
+    (Sum(&Num(1), &[After(3, Add, Num(2))]), 6),
+    (
+        Sum(&Num(1), &[After(3, Add, Num(2)), After(7, Sub, Num(3))]),
+        10,
+    ),
+    (Prod(&Num(2), &[After(3, Mul, Num(2))]), 6),
     (Neg(1, &Bracket(&Num(7))), 6),
     (Bracket(&Num(7)), 4),
     (Var("x"), 2),
@@ -127,8 +130,11 @@ const BIG: Sample = Each(
 
 const TOO_DEAR: [Sample; 3] = [
     BIG,
-    Sum(&Num(1), &[(3, Add, BIG)]),
-    Sum(&BIG, &[(3, Add, Prod(&Num(1), &[(5, Div, Num(0))]))]),
+    Sum(&Num(1), &[After(3, Add, BIG)]),
+    Sum(
+        &BIG,
+        &[After(3, Add, Prod(&Num(1), &[After(5, Div, Num(0))]))],
+    ),
 ];
 
 fn is_too_dear(alloc: Global, sample: Sample) -> Result<bool, NoMemory> {
@@ -146,7 +152,10 @@ fn an_expression_may_cost_too_much(rt: HostRuntime) {
 /// A fault before the expression is too dear is answered, and so is a value that stops before that.
 const STOPPED: [(Sample, Wanted); 3] = [
     (
-        Sum(&Prod(&Num(1), &[(5, Div, Num(0))]), &[(9, Add, BIG)]),
+        Sum(
+            &Prod(&Num(1), &[After(5, Div, Num(0))]),
+            &[After(9, Add, BIG)],
+        ),
         Fault(Division, 5),
     ),
     (

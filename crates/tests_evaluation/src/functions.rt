@@ -4,6 +4,7 @@ use crate::evaluates::Wanted::{self, Fault, Value};
 use crate::evaluates::{Names, is_evaluated};
 use crate::expect::expect;
 use crate::plain::Plain::{self, Bool, Int, Node as Tree};
+use crate::sample::After;
 use crate::sample::Sample::{
     self, All, Any, Bytes, Call, Compare, Each, Flag, List, Num, Post, Prod, Sum as Chain, Text,
     Tuple, Var,
@@ -133,7 +134,7 @@ const CALLS: [(Sample, Wanted); 33] = [
                     "y",
                     &[
                         List(&[Num(0), Num(1)]),
-                        Chain(&Var("x"), &[(3, Add, Var("y"))]),
+                        Chain(&Var("x"), &[After(3, Add, Var("y"))]),
                     ],
                 ),
             ],
@@ -149,7 +150,7 @@ const CALLS: [(Sample, Wanted); 33] = [
             "x",
             &[
                 List(&[Num(1), Num(0)]),
-                Compare(Eq, &[Prod(&Num(1), &[(7, Div, Var("x"))]), Num(1)]),
+                Compare(Eq, &[Prod(&Num(1), &[After(7, Div, Var("x"))]), Num(1)]),
             ],
         ),
         Value(Bool(true)),
@@ -159,7 +160,7 @@ const CALLS: [(Sample, Wanted); 33] = [
             "x",
             &[
                 List(&[Num(0), Num(1)]),
-                Compare(Eq, &[Prod(&Num(1), &[(7, Div, Var("x"))]), Num(1)]),
+                Compare(Eq, &[Prod(&Num(1), &[After(7, Div, Var("x"))]), Num(1)]),
             ],
         ),
         Fault(Division, 7),
@@ -206,7 +207,10 @@ const TAKEN: [(Sample, Wanted); 11] = [
     (
         Post(
             &List(&[List(&[Num(1)])]),
-            &[Item(3, Num(1)), Item(6, Prod(&Num(1), &[(8, Div, Num(0))]))],
+            &[
+                Item(3, Num(1)),
+                Item(6, Prod(&Num(1), &[After(8, Div, Num(0))])),
+            ],
         ),
         Fault(Index, 3),
     ),

@@ -4,6 +4,7 @@ use crate::evaluates::Wanted::{self, Fault, Value};
 use crate::evaluates::is_evaluated;
 use crate::expect::expect;
 use crate::plain::Plain;
+use crate::sample::After;
 use crate::sample::Sample::{
     self, And, Bracket, Compare, Flag, If, List, Neg, Not, Num, Or, Prod, Sum, Text, Tuple,
 };
@@ -12,62 +13,92 @@ use pt_ast::Op::{Add, Div, Mul, Rem, Sub};
 use pt_case::What::{Division, Overflow};
 
 const NUMBERS: [(Sample, Wanted); 27] = [
-    (Sum(&Num(1), &[(3, Add, Num(2))]), Value(Plain::Int(3))),
+    (Sum(&Num(1), &[After(3, Add, Num(2))]), Value(Plain::Int(3))),
     (
-        Sum(&Num(10), &[(4, Sub, Num(3)), (8, Sub, Num(2))]),
+        Sum(&Num(10), &[After(4, Sub, Num(3)), After(8, Sub, Num(2))]),
         Value(Plain::Int(5)),
     ),
-    (Sum(&Num(i64::MAX), &[(5, Add, Num(1))]), Fault(Overflow, 5)),
     (
-        Sum(&Num(i64::MAX), &[(5, Add, Num(0)), (9, Add, Num(1))]),
+        Sum(&Num(i64::MAX), &[After(5, Add, Num(1))]),
+        Fault(Overflow, 5),
+    ),
+    (
+        Sum(
+            &Num(i64::MAX),
+            &[After(5, Add, Num(0)), After(9, Add, Num(1))],
+        ),
         Fault(Overflow, 9),
     ),
     (
-        Sum(&Num(i64::MAX), &[(5, Add, Num(1)), (9, Sub, Num(1))]),
+        Sum(
+            &Num(i64::MAX),
+            &[After(5, Add, Num(1)), After(9, Sub, Num(1))],
+        ),
         Fault(Overflow, 5),
     ),
-    (Sum(&Num(i64::MIN), &[(5, Sub, Num(1))]), Fault(Overflow, 5)),
-    (Sum(&Num(0), &[(5, Sub, Num(i64::MIN))]), Fault(Overflow, 5)),
     (
-        Sum(&Num(-1), &[(5, Sub, Num(i64::MIN))]),
+        Sum(&Num(i64::MIN), &[After(5, Sub, Num(1))]),
+        Fault(Overflow, 5),
+    ),
+    (
+        Sum(&Num(0), &[After(5, Sub, Num(i64::MIN))]),
+        Fault(Overflow, 5),
+    ),
+    (
+        Sum(&Num(-1), &[After(5, Sub, Num(i64::MIN))]),
         Value(Plain::Int(i64::MAX)),
     ),
     (
-        Prod(&Num(i64::MAX), &[(5, Mul, Num(2))]),
+        Prod(&Num(i64::MAX), &[After(5, Mul, Num(2))]),
         Fault(Overflow, 5),
     ),
     (
-        Prod(&Num(i64::MIN), &[(5, Mul, Num(-1))]),
+        Prod(&Num(i64::MIN), &[After(5, Mul, Num(-1))]),
         Fault(Overflow, 5),
     ),
     (
-        Prod(&Num(i64::MIN), &[(5, Mul, Num(1))]),
+        Prod(&Num(i64::MIN), &[After(5, Mul, Num(1))]),
         Value(Plain::Int(i64::MIN)),
     ),
-    (Prod(&Num(7), &[(5, Div, Num(2))]), Value(Plain::Int(3))),
-    (Prod(&Num(-7), &[(5, Div, Num(2))]), Value(Plain::Int(-3))),
-    (Prod(&Num(7), &[(5, Div, Num(-2))]), Value(Plain::Int(-3))),
     (
-        Prod(&Num(i64::MIN), &[(5, Div, Num(-1))]),
-        Fault(Overflow, 5),
-    ),
-    (Prod(&Num(1), &[(5, Div, Num(0))]), Fault(Division, 5)),
-    (Prod(&Num(7), &[(5, Rem, Num(-2))]), Value(Plain::Int(1))),
-    (Prod(&Num(-7), &[(5, Rem, Num(2))]), Value(Plain::Int(-1))),
-    (
-        Prod(&Num(i64::MIN), &[(5, Rem, Num(-1))]),
-        Fault(Overflow, 5),
+        Prod(&Num(7), &[After(5, Div, Num(2))]),
+        Value(Plain::Int(3)),
     ),
     (
-        Prod(&Num(i64::MIN), &[(5, Rem, Num(0))]),
+        Prod(&Num(-7), &[After(5, Div, Num(2))]),
+        Value(Plain::Int(-3)),
+    ),
+    (
+        Prod(&Num(7), &[After(5, Div, Num(-2))]),
+        Value(Plain::Int(-3)),
+    ),
+    (
+        Prod(&Num(i64::MIN), &[After(5, Div, Num(-1))]),
+        Fault(Overflow, 5),
+    ),
+    (Prod(&Num(1), &[After(5, Div, Num(0))]), Fault(Division, 5)),
+    (
+        Prod(&Num(7), &[After(5, Rem, Num(-2))]),
+        Value(Plain::Int(1)),
+    ),
+    (
+        Prod(&Num(-7), &[After(5, Rem, Num(2))]),
+        Value(Plain::Int(-1)),
+    ),
+    (
+        Prod(&Num(i64::MIN), &[After(5, Rem, Num(-1))]),
+        Fault(Overflow, 5),
+    ),
+    (
+        Prod(&Num(i64::MIN), &[After(5, Rem, Num(0))]),
         Fault(Division, 5),
     ),
     (
-        Prod(&Num(2), &[(3, Mul, Num(5)), (7, Rem, Num(4))]),
+        Prod(&Num(2), &[After(3, Mul, Num(5)), After(7, Rem, Num(4))]),
         Value(Plain::Int(2)),
     ),
     (
-        Prod(&Num(1), &[(5, Div, Num(0)), (9, Div, Num(0))]),
+        Prod(&Num(1), &[After(5, Div, Num(0)), After(9, Div, Num(0))]),
         Fault(Division, 5),
     ),
     (Neg(4, &Num(5)), Value(Plain::Int(-5))),
@@ -79,8 +110,8 @@ const NUMBERS: [(Sample, Wanted); 27] = [
     (Bracket(&Num(9)), Value(Plain::Int(9))),
     (
         Sum(
-            &Prod(&Num(1), &[(3, Div, Num(0))]),
-            &[(7, Add, Prod(&Num(1), &[(9, Div, Num(0))]))],
+            &Prod(&Num(1), &[After(3, Div, Num(0))]),
+            &[After(7, Add, Prod(&Num(1), &[After(9, Div, Num(0))]))],
         ),
         Fault(Division, 3),
     ),
@@ -94,7 +125,7 @@ fn numbers_are_reckoned_from_the_left(rt: HostRuntime) {
 }
 
 /// `1 / 0 == 0`, which no row that stops before it comes to.
-const FAULTY: Sample = Compare(Eq, &[Prod(&Num(1), &[(30, Div, Num(0))]), Num(0)]);
+const FAULTY: Sample = Compare(Eq, &[Prod(&Num(1), &[After(30, Div, Num(0))]), Num(0)]);
 
 const TRUTHS: [(Sample, Wanted); 34] = [
     (Not(&Flag(true)), Value(Plain::Bool(false))),
@@ -173,7 +204,7 @@ const TRUTHS: [(Sample, Wanted); 34] = [
         Value(Plain::Bool(true)),
     ),
     (
-        Compare(Eq, &[Prod(&Num(1), &[(9, Div, Num(0))]), FAULTY]),
+        Compare(Eq, &[Prod(&Num(1), &[After(9, Div, Num(0))]), FAULTY]),
         Fault(Division, 9),
     ),
 ];

@@ -11,6 +11,7 @@ use std::alloc::Global;
 
 /// An expression as plain data. A number before its parts is the column at which its fault would be.
 #[derive(Clone, Copy)]
+#[cycle(shapes)]
 pub enum Sample {
     Num(i64),
     Flag(bool),
@@ -22,8 +23,8 @@ pub enum Sample {
     And(&'static [Sample]),
     Not(&'static Sample),
     Compare(CompareOp, &'static [Sample; 2]),
-    Sum(&'static Sample, &'static [(u32, Op, Sample)]),
-    Prod(&'static Sample, &'static [(u32, Op, Sample)]),
+    Sum(&'static Sample, &'static [After]),
+    Prod(&'static Sample, &'static [After]),
     Neg(u32, &'static Sample),
     Post(&'static Sample, &'static [Taken]),
     Call(u32, Func, &'static [Sample]),
@@ -35,8 +36,14 @@ pub enum Sample {
     List(&'static [Sample]),
 }
 
+/// An operator, with what stands on its right.
+#[derive(Clone, Copy)]
+#[cycle(shapes)]
+pub struct After(pub u32, pub Op, pub Sample);
+
 /// What is taken of a value.
 #[derive(Clone, Copy)]
+#[cycle(shapes)]
 pub enum Taken {
     Index(u32, Sample),
     Part(i64),
@@ -75,14 +82,23 @@ pub fn made(alloc: Global, sample: &Sample) -> Result<Expr, NoMemory> {
             let left = boxed(alloc, left)?;
             Ok(Expr::compare(at(1), left, *op, boxed(alloc, right)?))
         }
-        Sum(first, tails) => chain(alloc, first, tails, true),
-        Prod(first, tails) => chain(alloc, first, tails, false),
+        Sum(first, tails) => {
+            let first = boxed(alloc, first)?;
+            Ok(Expr::sum(at(1), first, tails_of(alloc, tails)?))
+        }
+        Prod(first, tails) => {
+            let first = boxed(alloc, first)?;
+            Ok(Expr::prod(at(1), first, tails_of(alloc, tails)?))
+        }
         Neg(column, part) => Ok(Expr::neg(at(*column), boxed(alloc, part)?)),
-        Post(base, posts) => post(alloc, base, posts),
+        Post(base, taken) => {
+            let base = boxed(alloc, base)?;
+            Ok(Expr::post(at(1), base, posts_of(alloc, taken)?))
+        }
         Call(column, func, parts) => Ok(Expr::call(at(*column), *func, all(alloc, parts)?)),
-        All(given, [list, body]) => bind(alloc, Binder::All, given, list, body),
-        Any(given, [list, body]) => bind(alloc, Binder::Any, given, list, body),
-        Each(given, [list, body]) => bind(alloc, Binder::Each, given, list, body),
+        All(given, parts) => bind(alloc, parts, Binder::All, given),
+        Any(given, parts) => bind(alloc, parts, Binder::Any, given),
+        Each(given, parts) => bind(alloc, parts, Binder::Each, given),
         Bracket(part) => Ok(Expr::bracket(at(1), boxed(alloc, part)?)),
         Tuple(parts) => Ok(Expr::tuple(at(1), all(alloc, parts)?)),
         List(parts) => Ok(Expr::list(at(1), all(alloc, parts)?)),
@@ -104,37 +120,22 @@ fn all(alloc: Global, samples: &[Sample]) -> Result<Exprs, NoMemory> {
 }
 
 #[cycle(sample)]
-fn chain(
-    alloc: Global,
-    first: &Sample,
-    tails: &[(u32, Op, Sample)],
-    is_sum: bool,
-) -> Result<Expr, NoMemory> {
-    let first = boxed(alloc, first)?;
-    let mut all = Tails::empty(alloc);
-    for (column, op, sample) in tails {
+fn tails_of(alloc: Global, samples: &[After]) -> Result<Tails, NoMemory> {
+    let mut tails = Tails::empty(alloc);
+    for After(column, op, sample) in samples {
         let right = made(alloc, sample)?;
-        all.push(Tail {
-            at: at(*column),
-            op: *op,
-            right,
-        })?;
+        tails.push(Tail::of(at(*column), *op, right))?;
     }
-    Ok(if is_sum {
-        Expr::sum(at(1), first, all)
-    } else {
-        Expr::prod(at(1), first, all)
-    })
+    Ok(tails)
 }
 
 #[cycle(sample)]
-fn post(alloc: Global, base: &Sample, taken: &[Taken]) -> Result<Expr, NoMemory> {
-    let base = boxed(alloc, base)?;
+fn posts_of(alloc: Global, taken: &[Taken]) -> Result<PostTails, NoMemory> {
     let mut posts = PostTails::empty(alloc);
     for one in taken {
         posts.push(post_tail(alloc, one)?)?;
     }
-    Ok(Expr::post(at(1), base, posts))
+    Ok(posts)
 }
 
 #[cycle(sample)]
@@ -152,17 +153,13 @@ fn post_tail(alloc: Global, taken: &Taken) -> Result<PostTail, NoMemory> {
 }
 
 #[cycle(sample)]
-fn bind(
-    alloc: Global,
-    binder: Binder,
-    given: &str,
-    list: &Sample,
-    body: &Sample,
-) -> Result<Expr, NoMemory> {
+fn bind(alloc: Global, parts: &[Sample; 2], binder: Binder, given: &str) -> Result<Expr, NoMemory> {
+    let [list, body] = parts;
     let given = Ident {
         at: at(1),
         name: name(alloc, given)?,
     };
     let list = boxed(alloc, list)?;
-    Ok(Expr::bind(at(1), binder, given, list, boxed(alloc, body)?))
+    let body = boxed(alloc, body)?;
+    Ok(Expr::bind(at(1), binder, given, list, body))
 }
