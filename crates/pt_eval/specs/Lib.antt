@@ -1,0 +1,9 @@
+pub mod Env
+pub mod Parts
+pub mod Same
+pub mod Steps
+pub mod Calls
+pub mod Value
+pub mod Evaluates
+pub mod Spends
+pub mod Laws

@@ -1,0 +1,7 @@
+use crate::{Env, EvalStop};
+use pt_choice::may_be_shared;
+
+fn workers_share_them() {
+    may_be_shared::<Env>();
+    may_be_shared::<EvalStop>();
+}
