@@ -7,7 +7,7 @@ use Rattle.pt_disk.specs.Folder.{reads}
 use Rattle.pt_disk.specs.Moments.{Told, now}
 use Rattle.pt_disk.specs.Calls.{IsFirstPart}
 use Rattle.pt_stored.specs.Digest.{digest_text}
-use Rattle.hex.specs.Hex.{encode_lower}
+use Rattle.pt_stored.proofs.Digests.{same-text}
 use Rattle.pt_stored.specs.Digest.{AreAlike}
 use Rattle.pt_stored.specs.Stored.{IsClash}
 use Rattle.pt_stored.proofs.SetLemmas.{some-is}
@@ -16,7 +16,7 @@ use Rattle.pt_db.specs.Refusals.{HasNoClash}
 use Rattle.std.specs.Prelude.{IfSome}
 
 -- a part that is shorter than what was asked for is the whole file
-whole : (read : Option (List ℕ)) (part : List ℕ) → Some part ≡ option_map (λ bytes. take 65537 bytes) read → length part ≤ 65536 → read ≡ Some part
+pub whole : (read : Option (List ℕ)) (part : List ℕ) → Some part ≡ option_map (λ bytes. take 65537 bytes) read → length part ≤ 65536 → read ≡ Some part
 whole None part is short = absurd (cc is)
 whole (Some bytes) part is short =
     let first : part ≡ take 65537 bytes = cc is in
@@ -28,7 +28,7 @@ whole (Some bytes) part is short =
         (cases_lt 65537 (length bytes))
 
 -- and a short file is its own first part
-part-is : (read : Option (List ℕ)) (part b : List ℕ) → Some part ≡ option_map (λ bytes. take 65537 bytes) read → read ≡ Some b → length b ≤ 65536 → part ≡ b
+pub part-is : (read : Option (List ℕ)) (part b : List ℕ) → Some part ≡ option_map (λ bytes. take 65537 bytes) read → read ≡ Some b → length b ≤ 65536 → part ≡ b
 part-is None part b is has short = absurd (cc has)
 part-is (Some bytes) part b is has short =
     let same : bytes ≡ b = cc has in
@@ -66,7 +66,7 @@ no-clash-held (Some told) name value held = λ kept clash. clash.alike.differ (s
 
 pub no-clash-free : (told : Option Told) (name value : List ℕ) → IsFree told name value → HasNoClash told name value
 no-clash-free None name value free = tt
-no-clash-free (Some told) name value free = λ kept clash. free kept clash.short clash.there (ap encode_lower clash.alike.alike)
+no-clash-free (Some told) name value free = λ kept clash. free kept clash.short clash.there (same-text kept value clash.alike.alike)
 
 pub clash-there : (told : Option Told) (name value kept : List ℕ) → Holds told name kept → length kept ≤ 65536 → AreAlike kept value → IfSome told (λ told. IsClash (reads (now told)) name value kept)
 clash-there None name value kept held short alike = tt

@@ -1,7 +1,7 @@
 mod reading;
 mod saving;
 
-ghost use Rattle.std.specs.Prelude.{◌≡◌, ◌≤◌, false, length, is_ok, IsErr, IfOk, IfErr, IfSome, OnOk, IsErrOf, ⊤};
+ghost use Rattle.std.specs.Prelude.{◌≡◌, ◌↔◌, ◌+◌, true, false, is_ok, IsErr, IfOk, IfErr, IsErrOf, ⊤};
 ghost use Rattle.pt_disk.specs.Moments.{BothTell};
 ghost use Rattle.pt_disk.specs.Calls.{HasCause, Rests, AreNames, AreOrdered, IsFirstPart};
 ghost use Rattle.pt_db.specs.declared.fault.StoreFault.TheVariants as fault;

@@ -71,3 +71,7 @@ pub same-digest : (one other : List ℕ) → digest_text one ≡ digest_text oth
 same-digest one other same =
     let decoded = sym (decode_of-encode_lower (sha256 one) (sha256-bytes one)) ∙ ap decode_of same ∙ decode_of-encode_lower (sha256 other) (sha256-bytes other) in
     cc decoded
+
+-- and one digest has one text
+pub same-text : (one other : List ℕ) → sha256 one ≡ sha256 other → digest_text one ≡ digest_text other
+same-text one other same = ap encode_lower same

@@ -53,9 +53,9 @@ impl<'d, D: Disk> Store<'d, D> {
     // The entries of the wanted keys.
     fn gathered(&mut self, wanted: Option<&[u8]>) -> Result<Entries, StoreFault>
         ensures same_reference { self.new.disk.ghost_name ≡ self.old.disk.ghost_name }
-        ensures entries { IfOk result (AreTheEntries (option_copied wanted) (D.tells self.old.disk.now)) }
+        ensures entries { IfOk result (AreTheEntries (option_copied wanted.entry) (D.tells self.old.disk.now)) }
         ensures ordered { IfOk result AreInOrder }
-        ensures wanted { IfOk result (All (λ entry. IsWanted (option_copied wanted) entry.key)) }
+        ensures wanted { IfOk result (All (λ entry. IsWanted (option_copied wanted.entry) entry.key)) }
         ensures rests { Rests (D.tells self.old.disk.now) (D.tells self.new.disk.now) }
         ensures cause { HasCause (IsErrOf result StoreFault.Disk) (D.faults self.old.disk.now) (D.faults self.new.disk.now) }
         ensures dies { Dies (IsErrOf result StoreFault.Disk) self.old.dead self.new.dead }
@@ -83,8 +83,8 @@ impl<'d, D: Disk> Store<'d, D> {
     // The entry of the file of this name, where it is an example of a wanted key.
     fn entry(&mut self, name: Octets, wanted: Option<&[u8]>) -> Result<Option<Entry>, StoreFault>
         ensures same_reference { self.new.disk.ghost_name ≡ self.old.disk.ghost_name }
-        ensures its { IfOk result (λ found. IfSome (D.tells self.old.disk.now) (λ told. IsItsEntry (option_copied wanted) (reads (now told)) name found)) }
-        ensures named { IfOk result (λ found. IfSome found (λ entry. (entry.file ≡ name) × IsWanted (option_copied wanted) entry.key)) }
+        ensures its { IfOk result (λ found. IfSome (D.tells self.old.disk.now) (λ told. IsItsEntry (option_copied wanted.entry) (reads (now told)) name found)) }
+        ensures named { IfOk result (λ found. IfSome found (λ entry. (entry.file ≡ name) × IsWanted (option_copied wanted.entry) entry.key)) }
         ensures rests { Rests (D.tells self.old.disk.now) (D.tells self.new.disk.now) }
         ensures cause { HasCause (IsErrOf result StoreFault.Disk) (D.faults self.old.disk.now) (D.faults self.new.disk.now) }
         ensures dies { Dies (IsErrOf result StoreFault.Disk) self.old.dead self.new.dead }
@@ -103,7 +103,7 @@ impl<'d, D: Disk> Store<'d, D> {
 
 // Whether the name is that of an example of a wanted key.
 fn is_wanted(name: &[u8], wanted: Option<&[u8]>) -> bool
-    ensures { IsTrue result ↔ IsWantedName (option_copied wanted) name.now }
+    ensures { IsTrue result ↔ IsWantedName (option_copied wanted.entry) name.now }
 {
     let Some((key, _value)) = digests_of(name) else {
         return false;
