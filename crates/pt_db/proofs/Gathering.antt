@@ -1,16 +1,19 @@
 -- The entries of the wanted keys, gathered name by name.
-use Rattle.std.proofs.Common.{◌≡◌, ◌≢◌, ℕ, ◌+◌, ◌≤◌, List, [], ◌∷◌, ◌++◌, length, Option, Some, None, refl, sym, ◌∙◌, ap, subst, arith}
-use Rattle.std.specs.Prelude.{IfSome, take}
+use Rattle.std.proofs.Common.{◌≡◌, ◌≢◌, ℕ, ◌<◌, List, [], ◌∷◌, ◌++◌, length, get_or, Option, Some, None, refl, sym, ◌∙◌, ap, subst, arith}
+use Rattle.std.specs.Prelude.{Bool, IfSome, IsTrue, MatchOption, nat_eq, take}
+use Rattle.std.specs.Cmp.Lexicographic.{pointwise, bytes_decides, slice_cmp}
 use Rattle.std.specs.Option.{option_map}
+use Rattle.std.specs.Ordering.{nat_cmp}
+use Rattle.std.specs.declared.cmp.Ordering.TheVariants.{Less}
 use Rattle.pt_disk.specs.Folder.{Folder, reads}
 use Rattle.pt_disk.specs.Moments.{Told, now}
-use Rattle.pt_disk.specs.Calls.{AreNames, IsFirstPart}
+use Rattle.pt_disk.specs.Calls.{AreNames, AreOrdered, IsFirstPart}
 use Rattle.pt_stored.specs.Digest.{IsNameOf, digest_text}
 use Rattle.pt_stored.specs.Example.{IsExample, IsExampleOf}
 use Rattle.pt_stored.specs.Entries.{IsEntry, IsWanted, IsShown}
 use Rattle.pt_stored.specs.declared.entry.Entry.{Entry}
 use Rattle.pt_stored.proofs.NameLemmas.{one-key, example-name}
-use Rattle.pt_stored.proofs.EntryLemmas.{AreFrom, from-none, from-skip, from-push, from-all}
+use Rattle.pt_stored.proofs.EntryLemmas.{AreFrom, from-none, from-skip, from-push, from-all, StandIn, stand-push, before-next}
 use Rattle.pt_db.specs.Reading.{AreTheEntries, IsWantedName, IsItsEntry}
 use Rattle.pt_db.proofs.Reading.{whole, part-is}
 
@@ -39,6 +42,13 @@ module _ (wanted : Option (List ℕ)) where
   pub gathered-all : (told : Option Told) (names : List (List ℕ)) (entries : List Entry) → AreNames told names → Gathered told names entries → AreTheEntries wanted told entries
   gathered-all None names entries are so_far = tt
   gathered-all (Some told) names entries are so_far = from-all (reads (now told)) wanted names entries so_far are
+
+  pub stand-next : (all names : List (List ℕ)) (name : List ℕ) (entries : List Entry) (entry : Entry) → AreOrdered all → names ≡ take (length names) all → length names < length all →
+      name ≡ get_or all (length names) name → StandIn wanted names entries → (entry.file ≡ name) × IsShown entry × IsWanted wanted entry.key → StandIn wanted (names ++ name ∷ []) (entries ++ entry ∷ [])
+  stand-next all names name entries entry ordered first more next stand is =
+      subst (λ (n : List ℕ). StandIn wanted (names ++ n ∷ []) (entries ++ entry ∷ [])) is.0
+          (stand-push wanted names entry entries stand is.1 is.2
+              (λ n has. subst (λ (m : List ℕ). slice_cmp nat_cmp n m ≡ Less) (sym is.0) (before-next all names name ordered first more next n has)))
 
   -- ---- the file of one name
 
@@ -83,3 +93,22 @@ module _ (wanted : Option (List ℕ)) where
     shown-wanted name entry shown file want,
     file,
   )
+
+  pub its-found : (told : Option Told) (name bytes : List ℕ) (found : Option Entry) → IsFirstPart told name 65537 (Some bytes) →
+      MatchOption found (¬ IsExample name bytes) (λ entry. (entry.file ≡ name) × (entry.bytes ≡ bytes) × IsShown entry) → IsWantedName wanted name → Its told name found
+  its-found told name bytes None part found want = its-other told name bytes part found
+  its-found told name bytes (Some entry) part found want = its-shown told name bytes entry part found.2 found.0 found.1 want
+
+  pub found-wanted : (name bytes : List ℕ) (found : Option Entry) →
+      MatchOption found (¬ IsExample name bytes) (λ entry. (entry.file ≡ name) × (entry.bytes ≡ bytes) × IsShown entry) → IsWantedName wanted name →
+      IfSome found (λ entry. (entry.file ≡ name) × IsShown entry × IsWanted wanted entry.key)
+  found-wanted name bytes None found want = tt
+  found-wanted name bytes (Some entry) found want = (found.0, found.2, shown-wanted name entry found.2 found.0 want)
+
+-- whether the key of a name is this one
+pub wanted-key : (name key value wanted : List ℕ) (same : Bool) → IsNameOf name key value → same ≡ pointwise nat_eq key wanted →
+    (IsTrue same → IsWantedName (Some wanted) name) × (IsWantedName (Some wanted) name → IsTrue same)
+wanted-key name key value wanted same parts tells = (
+  λ is. (key, value, parts, (bytes_decides key wanted).0 (sym tells ∙ is)),
+  λ (k, v, other, want). tells ∙ (bytes_decides key wanted).1 (one-key key value k v parts.key_digest other.key_digest (sym parts.joined ∙ other.joined) ∙ want),
+)

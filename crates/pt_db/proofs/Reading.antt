@@ -59,15 +59,7 @@ free-different (Some told) name part value is other = λ b short has alike.
     let same = part-is (reads (now told) name) part b is has short in
     other (ap digest_text same ∙ alike)
 
--- where a value is held, or none of its digest, there is no clash
-pub no-clash-held : (told : Option Told) (name value : List ℕ) → Holds told name value → HasNoClash told name value
-no-clash-held None name value held = tt
-no-clash-held (Some told) name value held = λ kept clash. clash.alike.differ (some-is kept value (sym clash.there ∙ held))
-
-pub no-clash-free : (told : Option Told) (name value : List ℕ) → IsFree told name value → HasNoClash told name value
-no-clash-free None name value free = tt
-no-clash-free (Some told) name value free = λ kept clash. free kept clash.short clash.there (same-text kept value clash.alike.alike)
-
+-- a clash, where the disk tells
 pub clash-there : (told : Option Told) (name value kept : List ℕ) → Holds told name kept → length kept ≤ 65536 → AreAlike kept value → IfSome told (λ told. IsClash (reads (now told)) name value kept)
 clash-there None name value kept held short alike = tt
 clash-there (Some told) name value kept held short alike = record { short = short; there = held; alike = alike }

@@ -88,19 +88,6 @@ module _ (Edit : Files → Files → Type 0) (name : List ℕ) where
       (λ later. later.1.images image later.2)
       (elapsed-images (Both (now old)) old new elapsed image since)
 
--- what was or was not written, of the calls
-
-pub same-calls : (calls : Folder → Folder) (old new : Option Told) → Rests old new → IsSameOr calls old new
-same-calls calls old new = both-weaker (λ old new. Elapsed (IsAsAt old) old new) (λ old new. (now new ≡ now old) ⊎ (now new ≡ calls (now old))) old new
-    (λ a b elapsed. inl (rested a b elapsed))
-
-pub all-calls : (name : List ℕ) (file : Option (List ℕ)) (calls : Folder → Folder) (old mid new : Option Told) → Rests old mid → BothTell (Reached name file calls true) mid new → IsSameOr calls old new
-all-calls name file calls old mid new = both-then (λ old new. Elapsed (IsAsAt old) old new) (Reached name file calls true) (λ old new. (now new ≡ now old) ⊎ (now new ≡ calls (now old))) old mid new
-    (λ a b c elapsed reached. inr (reached.here refl ∙ ap calls (rested a b elapsed)))
-
-pub rests-where : (Is : Files → Type 0) (old new : Option Told) → Rests old new → RestsWhere Is old new
-rests-where Is old new = both-weaker (λ old new. Elapsed (IsAsAt old) old new) (λ old new. Is (reads (now old)) → Elapsed (IsAsAt old) old new) old new (λ a b elapsed holds. elapsed)
-
 -- the files at the start are not so, whatever was done
 pub rests-never : (Is : Files → Type 0) (P Q : Told → Told → Type 0) (old mid new : Option Told) → BothTell P old mid → BothTell Q mid new →
     ((told : Told) → old ≡ Some told → ¬ Is (reads (now told))) → RestsWhere Is old new
@@ -167,13 +154,7 @@ module _ (digest bytes : List ℕ) (is : IsDigest digest) (other : file_name dig
   deleted-absent None (Some new) rests free = absurd rests
   deleted-absent (Some old) None rests free = absurd rests
 
-  -- a free name is no stored pair's, and a held one is
-  pub free-never : (old : Option Told) → IsFree old name bytes → (told : Told) → old ≡ Some told → ¬ IsStored (reads (now told)) digest bytes
-  free-never None free told same = absurd (cc same)
-  free-never (Some old) free told same = λ stored.
-      let this : old ≡ told = cc same in
-      free bytes stored.short (ap (λ (t : Told). reads (now t) name) this ∙ stored.file) refl
-
+  -- a value that is held is stored
   pub held-always : (old : Option Told) → Holds old name bytes → length bytes ≤ 65536 → (told : Told) → old ≡ Some told → ¬ ¬ IsStored (reads (now told)) digest bytes
   held-always None held short told same = absurd (cc same)
   held-always (Some old) held short told same = λ none.

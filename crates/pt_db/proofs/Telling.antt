@@ -1,6 +1,6 @@
 -- What holds of what two disks tell.
 use Rattle.std.proofs.Common.{◌≡◌, Option, Some, None, refl, sym, ◌∙◌, subst}
-use Rattle.std.specs.Prelude.{IfSome}
+use Rattle.std.specs.Prelude.{Result, Ok, Err, is_err, false, IfSome, OnOk}
 use Rattle.pt_disk.specs.Folder.{Folder}
 use Rattle.pt_disk.specs.Moments.{Told, now, Elapsed, BothTell}
 use Rattle.pt_disk.specs.Calls.{Rests}
@@ -43,3 +43,8 @@ rests-back Is None None rests holds = tt
 rests-back Is (Some old) (Some new) rests holds = subst Is (rested old new rests) holds
 rests-back Is None (Some new) rests holds = absurd rests
 rests-back Is (Some old) None rests holds = absurd rests
+
+-- what a call says of its answer
+pub ok-holds : {A E : Type 0} (result : Result A E) (P : Type 0) → is_err result ≡ false → OnOk result P → P
+ok-holds (Ok answer) P is holds = holds
+ok-holds (Err fault) P is holds = absurd (cc is)

@@ -1,6 +1,6 @@
 -- The text of a digest.
 use Rattle.std.proofs.Common.{◌≡◌, ◌≢◌, inl, inr, ℕ, zero, suc, ◌+◌, ◌*◌, ◌/◌, ◌%◌, ◌<◌, Bool, true, false, List, [], ◌∷◌, ◌++◌, length, slice_index, Ok, refl, sym, ◌∙◌, ap, subst, arith}
-use Rattle.std.specs.Prelude.{◌&&◌, ◌||◌}
+use Rattle.std.specs.Prelude.{◌&&◌, ◌||◌, ◌↔◌, IsTrue}
 use Rattle.std.specs.List.{All, AllPass}
 use Rattle.std.proofs.lemmas.Bool.{and_parts, cases_lt}
 use Rattle.std.proofs.lemmas.List.Elements.{All-cons, All-nil}
@@ -9,7 +9,7 @@ use Rattle.hex.proofs.HexLemmas.{length-encode_with, decode_of-encode_lower}
 use Rattle.std.specs.Int.{w32, to_be_bytes}
 use Rattle.sha2.specs.Sha256.{sha256, digest_bytes, final_hash, initial_hash_256}
 use Rattle.sha2.proofs.Facts256.{length-sha256}
-use Rattle.pt_stored.specs.Digest.{IsDigest, digest_text, is_lower_digit}
+use Rattle.pt_stored.specs.Digest.{IsDigest, digest_text, is_lower_digit, AreAlike}
 
 -- the test of the first n digits of the table, which computes
 abbrev all_lower : ℕ → Bool
@@ -75,3 +75,10 @@ same-digest one other same =
 -- and one digest has one text
 pub same-text : (one other : List ℕ) → sha256 one ≡ sha256 other → digest_text one ≡ digest_text other
 same-text one other same = ap encode_lower same
+
+-- what a test of two digests tells
+pub differ-in-text : (same : Bool) (one other : List ℕ) → (IsTrue same ↔ (sha256 one ≡ sha256 other)) → same ≡ false → digest_text one ≢ digest_text other
+differ-in-text same one other tells is texts = cc (sym is ∙ tells.1 (same-digest one other texts))
+
+pub are-alike : (same : Bool) (one other : List ℕ) → (IsTrue same ↔ (sha256 one ≡ sha256 other)) → same ≡ true → one ≢ other → AreAlike one other
+are-alike same one other tells is differ = record { differ = differ; alike = tells.0 is }

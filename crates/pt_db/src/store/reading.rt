@@ -4,7 +4,7 @@ ghost use Rattle.pt_disk.specs.Folder.{reads};
 ghost use Rattle.pt_disk.specs.Moments.{now};
 ghost use Rattle.pt_disk.specs.Calls.{HasCause, Rests};
 ghost use Rattle.pt_stored.specs.Digest.{digest_text};
-ghost use Rattle.pt_stored.specs.Entries.{AreInOrder, IsWanted};
+ghost use Rattle.pt_stored.specs.Entries.{AreInOrder, IsShown, IsWanted};
 ghost use Rattle.pt_db.specs.Reading.{AreTheEntries, IsWantedName, IsItsEntry};
 ghost use Rattle.pt_db.specs.Refusals.{Dies, IsNoClash, IsOutside};
 
@@ -19,6 +19,7 @@ impl<'d, D: Disk> Store<'d, D> {
         ensures same_reference { self.new.disk.ghost_name ≡ self.old.disk.ghost_name }
         ensures entries { IfOk result (AreTheEntries (Some (digest_text key.now)) (D.tells self.old.disk.now)) }
         ensures ordered { IfOk result AreInOrder }
+        ensures shown { IfOk result (All IsShown) }
         ensures of_key { IfOk result (All (λ entry. entry.key ≡ digest_text key.now)) }
         ensures rests { Rests (D.tells self.old.disk.now) (D.tells self.new.disk.now) }
         ensures cause { HasCause (IsErrOf result StoreFault.Disk) (D.faults self.old.disk.now) (D.faults self.new.disk.now) }
@@ -38,6 +39,7 @@ impl<'d, D: Disk> Store<'d, D> {
         ensures same_reference { self.new.disk.ghost_name ≡ self.old.disk.ghost_name }
         ensures entries { IfOk result (AreTheEntries None (D.tells self.old.disk.now)) }
         ensures ordered { IfOk result AreInOrder }
+        ensures shown { IfOk result (All IsShown) }
         ensures rests { Rests (D.tells self.old.disk.now) (D.tells self.new.disk.now) }
         ensures cause { HasCause (IsErrOf result StoreFault.Disk) (D.faults self.old.disk.now) (D.faults self.new.disk.now) }
         ensures dead { IsErrOf result StoreFault.Dead ↔ (self.old.dead ≡ true) }
@@ -55,6 +57,7 @@ impl<'d, D: Disk> Store<'d, D> {
         ensures same_reference { self.new.disk.ghost_name ≡ self.old.disk.ghost_name }
         ensures entries { IfOk result (AreTheEntries (option_copied wanted.entry) (D.tells self.old.disk.now)) }
         ensures ordered { IfOk result AreInOrder }
+        ensures shown { IfOk result (All IsShown) }
         ensures wanted { IfOk result (All (λ entry. IsWanted (option_copied wanted.entry) entry.key)) }
         ensures rests { Rests (D.tells self.old.disk.now) (D.tells self.new.disk.now) }
         ensures cause { HasCause (IsErrOf result StoreFault.Disk) (D.faults self.old.disk.now) (D.faults self.new.disk.now) }
@@ -84,7 +87,7 @@ impl<'d, D: Disk> Store<'d, D> {
     fn entry(&mut self, name: Octets, wanted: Option<&[u8]>) -> Result<Option<Entry>, StoreFault>
         ensures same_reference { self.new.disk.ghost_name ≡ self.old.disk.ghost_name }
         ensures its { IfOk result (λ found. IfSome (D.tells self.old.disk.now) (λ told. IsItsEntry (option_copied wanted.entry) (reads (now told)) name found)) }
-        ensures named { IfOk result (λ found. IfSome found (λ entry. (entry.file ≡ name) × IsWanted (option_copied wanted.entry) entry.key)) }
+        ensures named { IfOk result (λ found. IfSome found (λ entry. (entry.file ≡ name) × IsShown entry × IsWanted (option_copied wanted.entry) entry.key)) }
         ensures rests { Rests (D.tells self.old.disk.now) (D.tells self.new.disk.now) }
         ensures cause { HasCause (IsErrOf result StoreFault.Disk) (D.faults self.old.disk.now) (D.faults self.new.disk.now) }
         ensures dies { Dies (IsErrOf result StoreFault.Disk) self.old.dead self.new.dead }
