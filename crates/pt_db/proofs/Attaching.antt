@@ -34,11 +34,12 @@ rest-kept folder image rests left = same-stored (reads folder) image (rests.imag
 attached : (ok : Bool) (old new : Told) → Changed (After Settle) ok old new → Attached ok old new
 attached ok old new changed =
     let moments : Elapsed (LeftBy (now old)) old new =
-        elapsed-weaker (IsWithin (now old) (After Settle (now old))) (LeftBy (now old)) old new (settled-left (now old)) changed.moments in
+    elapsed-weaker (IsWithin (now old) (After Settle (now old))) (LeftBy (now old)) old new (settled-left (now old)) changed.moments in
     let rests : IsTidy pending (now old) → ok ≡ true → IsAtRest pending (now new) =
-        λ tidy went. subst (IsAtRest pending) (sym (changed.done went)) (settled-rests (now old) tidy) in
+    λ tidy went. subst (IsAtRest pending) (sym (changed.done went)) (settled-rests (now old) tidy) in
     record {
       moments = moments;
+      settled = changed.done;
       same = λ went name. ap (λ (f : Folder). reads f name) (changed.done went);
       image = elapsed-now (LeftBy (now old)) old new moments (λ image left. left) (reads (now new)) (reads-image (now new));
       tidy = λ tidy. elapsed-weaker (IsWithin (now old) (After Settle (now old))) (IsTidy pending) old new (λ folder. settled-tidy (now old) folder tidy) changed.moments;

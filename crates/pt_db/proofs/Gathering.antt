@@ -47,8 +47,8 @@ module _ (wanted : Option (List ℕ)) where
       name ≡ get_or all (length names) name → StandIn wanted names entries → (entry.file ≡ name) × IsShown entry × IsWanted wanted entry.key → StandIn wanted (names ++ name ∷ []) (entries ++ entry ∷ [])
   stand-next all names name entries entry ordered first more next stand is =
       subst (λ (n : List ℕ). StandIn wanted (names ++ n ∷ []) (entries ++ entry ∷ [])) is.0
-          (stand-push wanted names entry entries stand is.1 is.2
-              (λ n has. subst (λ (m : List ℕ). slice_cmp nat_cmp n m ≡ Less) (sym is.0) (before-next all names name ordered first more next n has)))
+      (stand-push wanted names entry entries stand is.1 is.2
+      (λ n has. subst (λ (m : List ℕ). slice_cmp nat_cmp n m ≡ Less) (sym is.0) (before-next all names name ordered first more next n has)))
 
   -- ---- the file of one name
 

@@ -21,11 +21,11 @@ whole None part is short = absurd (cc is)
 whole (Some bytes) part is short =
     let first : part ≡ take 65537 bytes = cc is in
     ⊎_elim
-        (λ long.
-            let size = length-take-le 65537 bytes (omega (arith, long)) in
-            absurd (omega (arith, size, ap length first, short)))
-        (λ fits. ap (λ (b : List ℕ). Some b) (sym (first ∙ take_all 65537 bytes (omega (arith, fits)))))
-        (cases_lt 65537 (length bytes))
+    (λ long.
+    let size = length-take-le 65537 bytes (omega (arith, long)) in
+    absurd (omega (arith, size, ap length first, short)))
+    (λ fits. ap (λ (b : List ℕ). Some b) (sym (first ∙ take_all 65537 bytes (omega (arith, fits)))))
+    (cases_lt 65537 (length bytes))
 
 -- and a short file is its own first part
 pub part-is : (read : Option (List ℕ)) (part b : List ℕ) → Some part ≡ option_map (λ bytes. take 65537 bytes) read → read ≡ Some b → length b ≤ 65536 → part ≡ b

@@ -25,8 +25,8 @@ module _ (Edit : Files → Files → Type 0) (name : List ℕ) where
   still : (old new : Told) → Elapsed (IsAsAt old) old new → IsAtRest pending (now old) → Elapsed (Both (now old)) old new
   still old new elapsed rests = elapsed-weaker (IsAsAt old) (Both (now old)) old new
       (λ folder same. subst (Both (now old)) (sym same)
-          (leaves-weaker pending (SameBut pending (reads (now old))) (λ image. SameStored (reads (now old)) image ⊎ Edit (reads (now old)) image) (now old)
-              (λ image but. inl (same-stored (reads (now old)) image but)) rests))
+      (leaves-weaker pending (SameBut pending (reads (now old))) (λ image. SameStored (reads (now old)) image ⊎ Edit (reads (now old)) image) (now old)
+      (λ image but. inl (same-stored (reads (now old)) image but)) rests))
       elapsed
 
   -- nothing was written, and the call gave up
@@ -63,9 +63,9 @@ module _ (Edit : Files → Files → Type 0) (name : List ℕ) where
       let same = rested old mid elapsed in
       let here : ok ≡ true → now new ≡ calls (now old) = λ went. reached.here went ∙ ap calls same in
       let reading : ok ≡ true → SameBut pending (with_file name file (reads (now old))) (reads (now new)) =
-          λ went n spare. ap (λ (f : Folder). reads f n) (here went) ∙ gives (now old) n spare in
+      λ went n spare. ap (λ (f : Folder). reads f n) (here went) ∙ gives (now old) n spare in
       let at_rest : IsAtRest pending (now old) → ok ≡ true → IsAtRest pending (now new) =
-          λ rests went. subst (IsAtRest pending) (sym (here went)) (still_rests (now old) rests) in
+      λ rests went. subst (IsAtRest pending) (sym (here went)) (still_rests (now old) rests) in
       record {
         edited = λ went. edit (reads (now new)) (reading went);
         others = λ went other spare differs. reading went other spare ∙ with_file-other name file (reads (now old)) other differs;
@@ -74,10 +74,10 @@ module _ (Edit : Files → Files → Type 0) (name : List ℕ) where
         any_moment = λ rests.
             let later = subst (λ (f : Folder). Elapsed (LeavesOne name file f) mid new) same (reached.moments (subst (IsAtRest pending) (sym same) rests)) in
             elapsed-then (Both (now old)) old mid new (still old mid elapsed rests)
-                (elapsed-weaker (LeavesOne name file (now old)) (Both (now old)) mid new
-                    (λ folder. leaves-weaker pending (OneOf pending name file (reads (now old))) (λ image. SameStored (reads (now old)) image ⊎ Edit (reads (now old)) image) folder
-                        (λ image one. ⊎_elim (λ but. inl (same-stored (reads (now old)) image but)) (λ but. inr (edit image but)) one))
-                    later);
+            (elapsed-weaker (LeavesOne name file (now old)) (Both (now old)) mid new
+            (λ folder. leaves-weaker pending (OneOf pending name file (reads (now old))) (λ image. SameStored (reads (now old)) image ⊎ Edit (reads (now old)) image) folder
+            (λ image one. ⊎_elim (λ but. inl (same-stored (reads (now old)) image but)) (λ but. inr (edit image but)) one))
+            later);
       }
 
   -- a crash since the start
@@ -120,7 +120,7 @@ module _ (digest bytes : List ℕ) (is : IsDigest digest) (other : file_name dig
   saved-new ok None None None short rests free reached = tt
   saved-new ok (Some old) (Some mid) (Some new) short rests free reached =
       edits (StoredWith digest bytes) name (Some bytes) (saved_as name bytes) (written-reads name bytes other) (written-rests name bytes other) ok old mid new
-          (λ image same. stored-with digest bytes is (reads (now old)) image short free same) rests reached
+      (λ image same. stored-with digest bytes is (reads (now old)) image short free same) rests reached
   saved-new ok None (Some mid) new short rests free reached = absurd rests
   saved-new ok (Some old) None new short rests free reached = absurd rests
   saved-new ok None None (Some new) short rests free reached = absurd reached
@@ -131,7 +131,7 @@ module _ (digest bytes : List ℕ) (is : IsDigest digest) (other : file_name dig
   saved-already (Some old) (Some new) short rests held =
       let has : IsStored (reads (now old)) digest bytes = record { key = is; short = short; file = held } in
       unwritten (StoredWith digest bytes) name old new rests
-          (λ image same. with-same digest bytes (reads (now old)) image (same-stored (reads (now old)) image same) (stored-already digest bytes (reads (now old)) has))
+      (λ image same. with-same digest bytes (reads (now old)) image (same-stored (reads (now old)) image same) (stored-already digest bytes (reads (now old)) has))
   saved-already None (Some new) short rests held = absurd rests
   saved-already (Some old) None short rests held = absurd rests
 
@@ -139,7 +139,7 @@ module _ (digest bytes : List ℕ) (is : IsDigest digest) (other : file_name dig
   deleted-old ok None None None rests held reached = tt
   deleted-old ok (Some old) (Some mid) (Some new) rests held reached =
       edits (StoredWithout digest bytes) name None (removed name) (removed-reads name) (removed-rests name) ok old mid new
-          (λ image same. stored-without digest bytes is (reads (now old)) image held same) rests reached
+      (λ image same. stored-without digest bytes is (reads (now old)) image held same) rests reached
   deleted-old ok None (Some mid) new rests held reached = absurd rests
   deleted-old ok (Some old) None new rests held reached = absurd rests
   deleted-old ok None None (Some new) rests held reached = absurd reached
@@ -149,8 +149,8 @@ module _ (digest bytes : List ℕ) (is : IsDigest digest) (other : file_name dig
   deleted-absent None None rests free = tt
   deleted-absent (Some old) (Some new) rests free =
       unwritten (StoredWithout digest bytes) name old new rests
-          (λ image same. without-same digest bytes (reads (now old)) image (same-stored (reads (now old)) image same)
-              (stored-not digest bytes (reads (now old)) (λ stored. free bytes stored.short stored.file refl)))
+      (λ image same. without-same digest bytes (reads (now old)) image (same-stored (reads (now old)) image same)
+      (stored-not digest bytes (reads (now old)) (λ stored. free bytes stored.short stored.file refl)))
   deleted-absent None (Some new) rests free = absurd rests
   deleted-absent (Some old) None rests free = absurd rests
 

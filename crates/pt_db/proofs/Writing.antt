@@ -18,17 +18,17 @@ use Rattle.pt_db.proofs.Telling.{both-then, both-weaker}
 -- ---- one call more
 
 module _ (name : List ℕ) (file : Option (List ℕ)) where
-  abbrev same : Folder → Folder
-  same folder = folder
+  abbrev no_calls : Folder → Folder
+  no_calls folder = folder
 
   -- from a disk at rest a crash after these calls leaves the files of the start, or these with the file
   abbrev pub AreSafe : (Folder → Folder) → Type 0
   AreSafe calls = (start : Folder) → IsAtRest pending start → LeavesOne name file start (calls start)
 
-  pub none-safe : AreSafe same
+  pub none-safe : AreSafe no_calls
   none-safe start rests = leaves-weaker pending (SameBut pending (reads start)) (OneOf pending name file (reads start)) start (λ image but. inl but) rests
 
-  pub begun : (told : Told) → Reached name file same true told told
+  pub begun : (told : Told) → Reached name file no_calls true told told
   begun told = record { here = λ ok. refl; moments = λ rests. elapsed-none (LeavesOne name file (now told)) told }
 
   pub step : (calls change : Folder → Folder) (ok : Bool) → AreSafe calls → AreSafe (λ folder. change (calls folder)) →
@@ -39,10 +39,10 @@ module _ (name : List ℕ) (file : Option (List ℕ)) where
         here = λ went. changed.done went ∙ ap change is;
         moments = λ rests. elapsed-then (LeavesOne name file (now old)) old mid new (so_far.moments rests)
             (elapsed-weaker (IsWithin (now mid) (change (now mid))) (LeavesOne name file (now old)) mid new
-                (λ folder. leaves-within pending (OneOf pending name file (reads (now old))) (now mid) (change (now mid)) folder
-                    (subst (LeavesOne name file (now old)) (sym is) (before (now old) rests))
-                    (subst (λ (f : Folder). LeavesOne name file (now old) (change f)) (sym is) (after (now old) rests)))
-                changed.moments);
+            (λ folder. leaves-within pending (OneOf pending name file (reads (now old))) (now mid) (change (now mid)) folder
+            (subst (LeavesOne name file (now old)) (sym is) (before (now old) rests))
+            (subst (λ (f : Folder). LeavesOne name file (now old) (change f)) (sym is) (after (now old) rests)))
+            changed.moments);
       }
 
   -- a settle, after which reads give the files with this one
@@ -50,7 +50,7 @@ module _ (name : List ℕ) (file : Option (List ℕ)) where
       AreSafe (λ folder. After Settle (calls folder))
   settled-safe calls safe has start rests =
       leaves-weaker pending (SameBut pending (with_file name file (reads start))) (OneOf pending name file (reads start)) (After Settle (calls start)) (λ image but. inr but)
-          (only-settled pending (OneOf pending name file (reads start)) (with_file name file (reads start)) (calls start) (safe start rests) (has start))
+      (only-settled pending (OneOf pending name file (reads start)) (with_file name file (reads start)) (calls start) (safe start rests) (has start))
 
   pub settled-rests : (calls : Folder → Folder) → AreSafe calls → (start : Folder) → IsAtRest pending start → IsAtRest pending (After Settle (calls start))
   settled-rests calls safe start rests = only-settled pending (OneOf pending name file (reads start)) (reads (calls start)) (calls start) (safe start rests) (λ n other. refl)
@@ -109,25 +109,25 @@ module _ (name bytes : List ℕ) (other : name ≢ pending) where
   written-rests = settled-rests name (Some bytes) after_the_rename rename-safe
 
   -- what two disks tell before and after the first calls
-  abbrev Told_ : (Folder → Folder) → Bool → Option Told → Option Told → Type 0
-  Told_ calls ok = BothTell (Reached name (Some bytes) calls ok)
+  abbrev AreWritten : (Folder → Folder) → Bool → Option Told → Option Told → Type 0
+  AreWritten calls ok = BothTell (Reached name (Some bytes) calls ok)
 
   module _ (o0 o1 : Option Told) where
-    pub wrote-put : (ok : Bool) → Changes after_put ok o0 o1 → Told_ after_put ok o0 o1
+    pub wrote-put : (ok : Bool) → Changes after_put ok o0 o1 → AreWritten after_put ok o0 o1
     wrote-put ok = both-weaker (Changed after_put ok) (Reached name (Some bytes) after_put ok) o0 o1
-        (λ old new. step name (Some bytes) (same name (Some bytes)) after_put ok (none-safe name (Some bytes)) (safe-only after_put put-only) old old new (begun name (Some bytes) old))
+        (λ old new. step name (Some bytes) (no_calls name (Some bytes)) after_put ok (none-safe name (Some bytes)) (safe-only after_put put-only) old old new (begun name (Some bytes) old))
 
-    pub wrote-sync : (ok : Bool) (o2 : Option Told) → Changes after_put true o0 o1 → Changes (After (Sync pending)) ok o1 o2 → Told_ after_sync ok o0 o2
+    pub wrote-sync : (ok : Bool) (o2 : Option Told) → Changes after_put true o0 o1 → Changes (After (Sync pending)) ok o1 o2 → AreWritten after_sync ok o0 o2
     wrote-sync ok o2 put sync = both-then (Reached name (Some bytes) after_put true) (Changed (After (Sync pending)) ok) (Reached name (Some bytes) after_sync ok) o0 o1 o2
         (step name (Some bytes) after_put (After (Sync pending)) ok (safe-only after_put put-only) (safe-only after_sync sync-only)) (wrote-put true put) sync
 
     pub wrote-rename : (ok : Bool) (o2 o3 : Option Told) → Changes after_put true o0 o1 → Changes (After (Sync pending)) true o1 o2 → Changes (after_rename pending name) ok o2 o3 →
-        Told_ after_the_rename ok o0 o3
+        AreWritten after_the_rename ok o0 o3
     wrote-rename ok o2 o3 put sync rename = both-then (Reached name (Some bytes) after_sync true) (Changed (after_rename pending name) ok) (Reached name (Some bytes) after_the_rename ok) o0 o2 o3
         (step name (Some bytes) after_sync (after_rename pending name) ok (safe-only after_sync sync-only) rename-safe) (wrote-sync true o2 put sync) rename
 
     pub wrote : (ok : Bool) (o2 o3 o4 : Option Told) → Changes after_put true o0 o1 → Changes (After (Sync pending)) true o1 o2 → Changes (after_rename pending name) true o2 o3 →
-        Changes (After Settle) ok o3 o4 → Told_ (saved_as name bytes) ok o0 o4
+        Changes (After Settle) ok o3 o4 → AreWritten (saved_as name bytes) ok o0 o4
     wrote ok o2 o3 o4 put sync rename settle = both-then (Reached name (Some bytes) after_the_rename true) (Changed (After Settle) ok) (Reached name (Some bytes) (saved_as name bytes) ok) o0 o3 o4
         (step name (Some bytes) after_the_rename (After Settle) ok rename-safe (settled-safe name (Some bytes) after_the_rename rename-safe written-reads)) (wrote-rename true o2 o3 put sync rename) settle
 
@@ -149,7 +149,7 @@ module _ (name : List ℕ) where
   module _ (o0 o1 : Option Told) where
     pub erased-one : (ok : Bool) → Changes (After (Remove name)) ok o0 o1 → BothTell (Reached name None after_remove ok) o0 o1
     erased-one ok = both-weaker (Changed after_remove ok) (Reached name None after_remove ok) o0 o1
-        (λ old new. step name None (same name None) after_remove ok (none-safe name None) remove-safe old old new (begun name None old))
+        (λ old new. step name None (no_calls name None) after_remove ok (none-safe name None) remove-safe old old new (begun name None old))
 
     pub erased : (ok : Bool) (o2 : Option Told) → Changes (After (Remove name)) true o0 o1 → Changes (After Settle) ok o1 o2 → BothTell (Reached name None (removed name) ok) o0 o2
     erased ok o2 remove settle = both-then (Reached name None after_remove true) (Changed (After Settle) ok) (Reached name None (removed name) ok) o0 o1 o2
@@ -180,7 +180,7 @@ pub gave-up : (name : List ℕ) (file : Option (List ℕ)) (calls all : Folder �
     BothTell (Reached name file calls false) old new → BothTell (Reached name file all (is_ok result)) old new
 gave-up name file calls all result old new err both =
     subst (λ (ok : Bool). BothTell (Reached name file all ok) old new) (sym (err-not_ok result err))
-        (both-weaker (Reached name file calls false) (Reached name file all false) old new (failed name file calls all) both)
+    (both-weaker (Reached name file calls false) (Reached name file all false) old new (failed name file calls all) both)
 
 -- a call of the disk, and then what the store makes of it
 pub carry : {D : Type 0} (tells : D → Option Told) (change : Folder → Folder) (ok now_ok : Bool) (old mid new : D) → Changes change ok (tells old) (tells mid) → new ≡ mid → now_ok ≡ ok →

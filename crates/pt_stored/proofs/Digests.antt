@@ -36,8 +36,8 @@ lower-encoded (x ∷ xs) bytes =
     let high : x / 16 < 16 = omega (arith, small) in
     let low : x % 16 < 16 = omega arith in
     All-cons (λ c. is_lower_digit c ≡ true) (slice_index lower_digits (x / 16)) (slice_index lower_digits (x % 16) ∷ encode_lower xs) (lower-digit (x / 16) high)
-        (All-cons (λ c. is_lower_digit c ≡ true) (slice_index lower_digits (x % 16)) (encode_lower xs) (lower-digit (x % 16) low)
-            (lower-encoded xs (λ i. bytes (suc i))))
+    (All-cons (λ c. is_lower_digit c ≡ true) (slice_index lower_digits (x % 16)) (encode_lower xs) (lower-digit (x % 16) low)
+    (lower-encoded xs (λ i. bytes (suc i))))
 
 byte-append : (xs ys : List ℕ) → IsBytes xs → IsBytes ys → IsBytes (xs ++ ys)
 byte-append [] ys first second i = second i

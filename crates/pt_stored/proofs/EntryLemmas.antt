@@ -46,33 +46,37 @@ module _ (files : Files) where
     -- a name more, whose file is no wanted entry
     pub from-skip : (names : List (List ℕ)) (name : List ℕ) (entries : List Entry) → AreFrom names entries →
         ((entry : Entry) → IsEntry files entry → IsWanted wanted entry.key → entry.file ≡ name → ⊥) → AreFrom (names ++ name ∷ []) entries
-    from-skip names name entries from none = record { each = λ entry. (
-      λ has. let all = (from.each entry).0 has in (all.0, all.1, Contains-append_left names (name ∷ []) entry.file all.2),
-      λ all. ⊎_elim
-          (λ before. (from.each entry).1 (all.0, all.1, before))
-          (λ here. absurd (none entry all.0 all.1 (contains-one name entry.file here)))
-          (Contains-append_cases names (name ∷ []) entry.file all.2),
-    ) }
+    from-skip names name entries from none = record {
+      each = λ entry. (
+        λ has. let all = (from.each entry).0 has in (all.0, all.1, Contains-append_left names (name ∷ []) entry.file all.2),
+        λ all. ⊎_elim
+            (λ before. (from.each entry).1 (all.0, all.1, before))
+            (λ here. absurd (none entry all.0 all.1 (contains-one name entry.file here)))
+            (Contains-append_cases names (name ∷ []) entry.file all.2),
+      );
+    }
 
     -- a name more, and its entry
     pub from-push : (names : List (List ℕ)) (added : Entry) (entries : List Entry) → AreFrom names entries → IsEntry files added → IsWanted wanted added.key →
         AreFrom (names ++ added.file ∷ []) (entries ++ added ∷ [])
-    from-push names added entries from is want = record { each = λ entry. (
-      λ has. ⊎_elim
-          (λ before. let all = (from.each entry).0 before in (all.0, all.1, Contains-append_left names (added.file ∷ []) entry.file all.2))
-          (λ here.
-              let same = contains-one added entry here in
-              let all : IsEntry files entry × IsWanted wanted entry.key × Contains (names ++ added.file ∷ []) entry.file =
-                  subst (λ (e : Entry). IsEntry files e × IsWanted wanted e.key × Contains (names ++ added.file ∷ []) e.file) (sym same)
-                      (is, want, Contains-append_right names (added.file ∷ []) added.file (this-one added.file)) in
-              all)
-          (Contains-append_cases entries (added ∷ []) entry has),
-      λ all. ⊎_elim
-          (λ before. Contains-append_left entries (added ∷ []) entry ((from.each entry).1 (all.0, all.1, before)))
-          (λ here. Contains-append_right entries (added ∷ []) entry
-              (subst (Contains (added ∷ [])) (one-entry added entry is all.0 (sym (contains-one added.file entry.file here))) (this-one added)))
-          (Contains-append_cases names (added.file ∷ []) entry.file all.2),
-    ) }
+    from-push names added entries from is want = record {
+      each = λ entry. (
+        λ has. ⊎_elim
+            (λ before. let all = (from.each entry).0 before in (all.0, all.1, Contains-append_left names (added.file ∷ []) entry.file all.2))
+            (λ here.
+            let same = contains-one added entry here in
+            let all : IsEntry files entry × IsWanted wanted entry.key × Contains (names ++ added.file ∷ []) entry.file =
+            subst (λ (e : Entry). IsEntry files e × IsWanted wanted e.key × Contains (names ++ added.file ∷ []) e.file) (sym same)
+            (is, want, Contains-append_right names (added.file ∷ []) added.file (this-one added.file)) in
+            all)
+            (Contains-append_cases entries (added ∷ []) entry has),
+        λ all. ⊎_elim
+            (λ before. Contains-append_left entries (added ∷ []) entry ((from.each entry).1 (all.0, all.1, before)))
+            (λ here. Contains-append_right entries (added ∷ []) entry
+            (subst (Contains (added ∷ [])) (one-entry added entry is all.0 (sym (contains-one added.file entry.file here))) (this-one added)))
+            (Contains-append_cases names (added.file ∷ []) entry.file all.2),
+      );
+    }
 
     -- all names
     pub from-all : (names : List (List ℕ)) (entries : List Entry) → AreFrom names entries → ((name : List ℕ) → Contains names name ↔ IsSome (files name)) → AreEntries wanted files entries
@@ -87,14 +91,14 @@ module _ (wanted : Option (List ℕ)) where
     pub known : (entry : Entry) → Contains entries entry → Contains names entry.file
     pub ordered : AreInOrder entries
     pub shown : All IsShown entries
-    pub right : All (λ entry. IsWanted wanted entry.key) entries
+    pub of_wanted : All (λ entry. IsWanted wanted entry.key) entries
 
   pub stand-none : StandIn [] []
   stand-none = record {
     known = λ entry (k, within, is). absurd (omega (arith, within));
     ordered = λ i j d before within. absurd (omega (arith, within));
     shown = All-nil IsShown;
-    right = All-nil (λ entry. IsWanted wanted entry.key);
+    of_wanted = All-nil (λ entry. IsWanted wanted entry.key);
   }
 
   pub stand-skip : (names : List (List ℕ)) (name : List ℕ) (entries : List Entry) → StandIn names entries → StandIn (names ++ name ∷ []) entries
@@ -102,7 +106,7 @@ module _ (wanted : Option (List ℕ)) where
     known = λ entry has. Contains-append_left names (name ∷ []) entry.file (stand.known entry has);
     ordered = stand.ordered;
     shown = stand.shown;
-    right = stand.right;
+    of_wanted = stand.of_wanted;
   }
 
   -- a name more, and its entry, where all names so far stand before it
@@ -112,12 +116,12 @@ module _ (wanted : Option (List ℕ)) where
     known = λ entry has. ⊎_elim
         (λ old. Contains-append_left names (added.file ∷ []) entry.file (stand.known entry old))
         (λ here. Contains-append_right names (added.file ∷ []) entry.file
-            (subst (λ (e : Entry). Contains (added.file ∷ []) e.file) (sym (contains-one added entry here)) (this-one added.file)))
+        (subst (λ (e : Entry). Contains (added.file ∷ []) e.file) (sym (contains-one added entry here)) (this-one added.file)))
         (Contains-append_cases entries (added ∷ []) entry has);
     ordered = all_pairs_push (λ (one other : Entry). slice_cmp nat_cmp one.file other.file ≡ Less) entries added stand.ordered
         (λ k d within. before (get_or entries k d).file (stand.known (get_or entries k d) (Contains-get_or entries k d within)));
     shown = All-push IsShown entries added stand.shown is;
-    right = All-push (λ entry. IsWanted wanted entry.key) entries added stand.right want;
+    of_wanted = All-push (λ entry. IsWanted wanted entry.key) entries added stand.of_wanted want;
   }
 
 -- of names in order, those so far stand before the next
@@ -125,5 +129,5 @@ pub before-next : (all so_far : List (List ℕ)) (name : List ℕ) → AreOrdere
     (n : List ℕ) → Contains so_far n → slice_cmp nat_cmp n name ≡ Less
 before-next all so_far name ordered first more next n (k, within, is) =
     let there : get_or all k name ≡ n =
-        get_or_default all k name n (omega (arith, within, more)) ∙ sym (get_or-take (length so_far) all k n within) ∙ ap (λ (l : List (List ℕ)). get_or l k n) (sym first) ∙ is in
+    get_or_default all k name n (omega (arith, within, more)) ∙ sym (get_or-take (length so_far) all k n within) ∙ ap (λ (l : List (List ℕ)). get_or l k n) (sym first) ∙ is in
     subst (λ (m : List ℕ). slice_cmp nat_cmp n m ≡ Less) (sym next) (subst (λ (m : List ℕ). slice_cmp nat_cmp m (get_or all (length so_far) name) ≡ Less) there (ordered k (length so_far) name within more))

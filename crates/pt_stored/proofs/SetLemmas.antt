@@ -39,19 +39,19 @@ module _ (digest bytes : List ℕ) (is : IsDigest digest) (files image : Files) 
   stored-with short free same d b = (
     λ stored. ⊎_elim
         (λ here.
-            let names = same-names d b digest bytes stored.key is here in
-            let value : b ≡ bytes = some-is b bytes (sym stored.file ∙ ap image here ∙ at-name (Some bytes) same) in
-            inr (names.0, value))
+        let names = same-names d b digest bytes stored.key is here in
+        let value : b ≡ bytes = some-is b bytes (sym stored.file ∙ ap image here ∙ at-name (Some bytes) same) in
+        inr (names.0, value))
         (λ other. inl (record { key = stored.key; short = stored.short; file = sym (at-other (Some bytes) same d b stored.key other.0) ∙ stored.file }))
         (name-cases (file_name d b) name),
     λ either. ⊎_elim
         (λ stored. ⊎_elim
-            (λ here. absurd (free b stored.short (ap files (sym here) ∙ stored.file) (same-names d b digest bytes stored.key is here).1))
-            (λ other. record { key = stored.key; short = stored.short; file = at-other (Some bytes) same d b stored.key other.0 ∙ stored.file })
-            (name-cases (file_name d b) name))
+        (λ here. absurd (free b stored.short (ap files (sym here) ∙ stored.file) (same-names d b digest bytes stored.key is here).1))
+        (λ other. record { key = stored.key; short = stored.short; file = at-other (Some bytes) same d b stored.key other.0 ∙ stored.file })
+        (name-cases (file_name d b) name))
         (λ pair.
-            let here : IsStored image digest bytes = record { key = is; short = short; file = at-name (Some bytes) same } in
-            subst (λ (k : List ℕ). IsStored image k b) (sym pair.0) (subst (λ (v : List ℕ). IsStored image digest v) (sym pair.1) here))
+        let here : IsStored image digest bytes = record { key = is; short = short; file = at-name (Some bytes) same } in
+        subst (λ (k : List ℕ). IsStored image k b) (sym pair.0) (subst (λ (v : List ℕ). IsStored image digest v) (sym pair.1) here))
         either,
   )
 
@@ -59,13 +59,15 @@ module _ (digest bytes : List ℕ) (is : IsDigest digest) (files image : Files) 
   stored-without has same d b = (
     λ stored. ⊎_elim
         (λ here. absurd (cc (sym stored.file ∙ ap image here ∙ at-name None same)))
-        (λ other. (record { key = stored.key; short = stored.short; file = sym (at-other None same d b stored.key other.0) ∙ stored.file },
-            λ pair. other.0 (λ i. file_name (pair.0 i) (pair.1 i))))
+        (λ other. (
+          record { key = stored.key; short = stored.short; file = sym (at-other None same d b stored.key other.0) ∙ stored.file },
+          λ pair. other.0 (λ i. file_name (pair.0 i) (pair.1 i)),
+        ))
         (name-cases (file_name d b) name),
     λ left. ⊎_elim
         (λ here.
-            let names = same-names d b digest bytes left.0.key is here in
-            absurd (left.1 (names.0, some-is b bytes (sym left.0.file ∙ ap files here ∙ has))))
+        let names = same-names d b digest bytes left.0.key is here in
+        absurd (left.1 (names.0, some-is b bytes (sym left.0.file ∙ ap files here ∙ has))))
         (λ other. record { key = left.0.key; short = left.0.short; file = at-other None same d b left.0.key other.0 ∙ left.0.file })
         (name-cases (file_name d b) name),
   )

@@ -20,8 +20,8 @@ returns-in-Ok-true-clause-edits g c =
     let mid = g.D.Disk.tells c.holds.new.self.disk.now in
     let new = g.D.Disk.tells c.erase.new.self.disk.now in
     deleted-old digest value key (not-pending digest value key) (is_ok c.erase.result) told mid new c.in-Ok-true.ensures.rests
-        (subst (λ (n : List ℕ). Holds told n value) (c.as_slice.ensures ∙ c.in_ok-name.ensures) (c.in-Ok-true.ensures.held c.in-Ok-true.field-0-test).0)
-        (subst (λ (n : List ℕ). BothTell (Reached n None (removed n) (is_ok c.erase.result)) mid new) (c.as_slice-in-Ok-true.ensures ∙ c.in_ok-name.ensures) c.erase.ensures.written)
+    (subst (λ (n : List ℕ). Holds told n value) (c.as_slice.ensures ∙ c.in_ok-name.ensures) (c.in-Ok-true.ensures.held c.in-Ok-true.field-0-test).0)
+    (subst (λ (n : List ℕ). BothTell (Reached n None (removed n) (is_ok c.erase.result)) mid new) (c.as_slice-in-Ok-true.ensures ∙ c.in_ok-name.ensures) c.erase.ensures.written)
 
 pub returns-in-Ok-true-clause-unwritten : goal.returns-in-Ok-true-clause-unwritten
 returns-in-Ok-true-clause-unwritten g c =
@@ -32,9 +32,9 @@ returns-in-Ok-true-clause-unwritten g c =
     let n = c.as_slice-in-Ok-true.result.now in
     let held = c.in-Ok-true.ensures.held c.in-Ok-true.field-0-test in
     rests-never (λ files. ¬ IsStored files digest value) (λ old new. Elapsed (IsAsAt old) old new) (Reached n None (removed n) (is_ok c.erase.result)) told
-        (g.D.Disk.tells c.holds.new.self.disk.now) (g.D.Disk.tells c.erase.new.self.disk.now) c.in-Ok-true.ensures.rests c.erase.ensures.written
-        (held-always digest value key (not-pending digest value key) told
-            (subst (λ (n : List ℕ). Holds told n value) (c.as_slice.ensures ∙ c.in_ok-name.ensures) held.0) held.1)
+    (g.D.Disk.tells c.holds.new.self.disk.now) (g.D.Disk.tells c.erase.new.self.disk.now) c.in-Ok-true.ensures.rests c.erase.ensures.written
+    (held-always digest value key (not-pending digest value key) told
+    (subst (λ (n : List ℕ). Holds told n value) (c.as_slice.ensures ∙ c.in_ok-name.ensures) held.0) held.1)
 
 pub returns-in-Ok-false-clause-edits : goal.returns-in-Ok-false-clause-edits
 returns-in-Ok-false-clause-edits g c =
@@ -43,7 +43,7 @@ returns-in-Ok-false-clause-edits g c =
     let key = is-digest c.args.key.now in
     let told = g.D.Disk.tells c.args.self.now.disk.now in
     deleted-absent digest value key (not-pending digest value key) told _ c.in-Ok-false.ensures.rests
-        (subst (λ (n : List ℕ). IsFree told n value) (c.as_slice.ensures ∙ c.in_ok-name.ensures) (c.in-Ok-false.ensures.free c.in-Ok-false.field-0-test))
+    (subst (λ (n : List ℕ). IsFree told n value) (c.as_slice.ensures ∙ c.in_ok-name.ensures) (c.in-Ok-false.ensures.free c.in-Ok-false.field-0-test))
 
 pub returns-clause-edits : goal.returns-clause-edits
 returns-clause-edits g c =

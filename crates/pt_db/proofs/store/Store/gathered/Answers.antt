@@ -54,7 +54,7 @@ loop-name-preserved-else-is_err g c =
       lives = c.in-Ok-Some.ensures.dies.same (λ is. cc is) ∙ before.lives;
       found = subst (Gathered wanted told (c.loop-name.yielded ++ name ∷ [])) (sym pushed)
           (gathered-push wanted told c.loop-name.yielded name c.loop-name.entries entry before.found
-              (rests-back (λ folder. IsItsEntry wanted (reads folder) name (Some entry)) told mid before.rests its));
+          (rests-back (λ folder. IsItsEntry wanted (reads folder) name (Some entry)) told mid before.rests its));
       stand = subst (StandIn wanted (c.loop-name.yielded ++ name ∷ [])) (sym pushed)
           (stand-next wanted c.in-Ok.names c.loop-name.yielded name c.loop-name.entries entry c.in-Ok.ensures.ordered (sym (map-id c.loop-name.yielded) ∙ first) turn.0 turn.1 before.stand named);
     }

@@ -17,7 +17,7 @@ returns-in-Ok-true-clause-edits g c =
     let key = is-digest c.args.key.now in
     let told = g.D.Disk.tells c.args.self.now.disk.now in
     saved-already digest value key (not-pending digest value key) told _ c.requires c.in-Ok-true.ensures.rests
-        (subst (λ (n : List ℕ). Holds told n value) (c.as_slice.ensures ∙ c.in_ok-name.ensures) (c.in-Ok-true.ensures.held c.in-Ok-true.field-0-test).0)
+    (subst (λ (n : List ℕ). Holds told n value) (c.as_slice.ensures ∙ c.in_ok-name.ensures) (c.in-Ok-true.ensures.held c.in-Ok-true.field-0-test).0)
 
 pub write-requires : goal.write-requires
 write-requires g c = λ same.
@@ -32,8 +32,8 @@ returns-in-Ok-false-clause-edits g c =
     let mid = g.D.Disk.tells c.holds.new.self.disk.now in
     let new = g.D.Disk.tells c.write.new.self.disk.now in
     saved-new digest value key (not-pending digest value key) (is_ok c.write.result) told mid new c.requires c.in-Ok-false.ensures.rests
-        (subst (λ (n : List ℕ). IsFree told n value) (c.as_slice.ensures ∙ c.in_ok-name.ensures) (c.in-Ok-false.ensures.free c.in-Ok-false.field-0-test))
-        (subst (λ (n : List ℕ). BothTell (Reached n (Some value) (saved_as n value) (is_ok c.write.result)) mid new) (c.as_slice-in-Ok-false.ensures ∙ c.in_ok-name.ensures) c.write.ensures.written)
+    (subst (λ (n : List ℕ). IsFree told n value) (c.as_slice.ensures ∙ c.in_ok-name.ensures) (c.in-Ok-false.ensures.free c.in-Ok-false.field-0-test))
+    (subst (λ (n : List ℕ). BothTell (Reached n (Some value) (saved_as n value) (is_ok c.write.result)) mid new) (c.as_slice-in-Ok-false.ensures ∙ c.in_ok-name.ensures) c.write.ensures.written)
 
 pub returns-clause-edits : goal.returns-clause-edits
 returns-clause-edits g c =

@@ -14,7 +14,7 @@ returns-in_err-checked-3-clause-written g c =
     let synced = carry g.D.Disk.tells (After (Sync pending)) _ true _ _ _ c.sync-synced.ensures.changes c.checked-2.ensures.same c.in_ok-checked-2.ensures.ok in
     let renamed = carry g.D.Disk.tells (after_rename pending name) _ false _ _ _ c.rename-renamed.ensures.changes c.checked-3.ensures.same c.in_err-checked-3.ensures.ok in
     gave-up name (Some bytes) (after_the_rename name bytes c.requires) (saved_as name bytes) _ _ _ c.from_residual-in_err-checked-3.ensures.0
-        (wrote-rename name bytes c.requires _ _ false _ _ put synced renamed)
+    (wrote-rename name bytes c.requires _ _ false _ _ put synced renamed)
 
 pub returns-clause-written : goal.returns-clause-written
 returns-clause-written g c =
