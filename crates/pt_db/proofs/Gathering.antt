@@ -14,7 +14,7 @@ use Rattle.pt_stored.specs.Entries.{IsEntry, IsWanted, IsShown}
 use Rattle.pt_stored.specs.declared.entry.Entry.{Entry}
 use Rattle.pt_stored.proofs.NameLemmas.{one-key, example-name}
 use Rattle.pt_stored.proofs.EntryLemmas.{AreFrom, from-none, from-skip, from-push, from-all, StandIn, stand-push, before-next}
-use Rattle.pt_db.specs.Reading.{AreTheEntries, IsWantedName, IsItsEntry}
+use Rattle.pt_db.specs.Reading.{AreTheEntries, IsWantedName, IsTheEntry}
 use Rattle.pt_db.proofs.Reading.{whole, part-is}
 
 module _ (wanted : Option (List ℕ)) where
@@ -22,18 +22,15 @@ module _ (wanted : Option (List ℕ)) where
   abbrev pub Gathered : Option Told → List (List ℕ) → List Entry → Type 0
   Gathered told names entries = IfSome told (λ told. AreFrom (reads (now told)) wanted names entries)
 
-  abbrev pub Its : Option Told → List ℕ → Option Entry → Type 0
-  Its told name found = IfSome told (λ told. IsItsEntry wanted (reads (now told)) name found)
-
   pub gathered-none : (told : Option Told) → Gathered told [] []
   gathered-none None = tt
   gathered-none (Some told) = from-none (reads (now told)) wanted
 
-  pub gathered-skip : (told : Option Told) (names : List (List ℕ)) (name : List ℕ) (entries : List Entry) → Gathered told names entries → Its told name None → Gathered told (names ++ name ∷ []) entries
+  pub gathered-skip : (told : Option Told) (names : List (List ℕ)) (name : List ℕ) (entries : List Entry) → Gathered told names entries → IsTheEntry wanted told name None → Gathered told (names ++ name ∷ []) entries
   gathered-skip None names name entries so_far its = tt
   gathered-skip (Some told) names name entries so_far its = from-skip (reads (now told)) wanted names name entries so_far its
 
-  pub gathered-push : (told : Option Told) (names : List (List ℕ)) (name : List ℕ) (entries : List Entry) (entry : Entry) → Gathered told names entries → Its told name (Some entry) →
+  pub gathered-push : (told : Option Told) (names : List (List ℕ)) (name : List ℕ) (entries : List Entry) (entry : Entry) → Gathered told names entries → IsTheEntry wanted told name (Some entry) →
       Gathered told (names ++ name ∷ []) (entries ++ entry ∷ [])
   gathered-push None names name entries entry so_far its = tt
   gathered-push (Some told) names name entries entry so_far its =
@@ -53,12 +50,12 @@ module _ (wanted : Option (List ℕ)) where
   -- ---- the file of one name
 
   -- the name of another file than an example of a wanted key
-  pub its-unwanted : (told : Option Told) (name : List ℕ) → ¬ IsWantedName wanted name → Its told name None
+  pub its-unwanted : (told : Option Told) (name : List ℕ) → ¬ IsWantedName wanted name → IsTheEntry wanted told name None
   its-unwanted None name not = tt
   its-unwanted (Some told) name not = λ entry is want same.
       not (entry.key, digest_text entry.bytes, example-name entry.key name entry.bytes (record { key = is.stored.key; short = is.stored.short; named = sym same ∙ is.named }), want)
 
-  pub its-absent : (told : Option Told) (name : List ℕ) → IsFirstPart told name 65537 None → Its told name None
+  pub its-absent : (told : Option Told) (name : List ℕ) → IsFirstPart told name 65537 None → IsTheEntry wanted told name None
   its-absent None name part = tt
   its-absent (Some told) name part = λ entry is want same. no_part (reads (now told) name) entry.bytes part (ap (reads (now told)) (sym same ∙ is.named) ∙ is.stored.file)
     where
@@ -66,7 +63,7 @@ module _ (wanted : Option (List ℕ)) where
       no_part None b is has = cc has
       no_part (Some bytes) b is has = cc is
 
-  pub its-other : (told : Option Told) (name bytes : List ℕ) → IsFirstPart told name 65537 (Some bytes) → ¬ IsExample name bytes → Its told name None
+  pub its-other : (told : Option Told) (name bytes : List ℕ) → IsFirstPart told name 65537 (Some bytes) → ¬ IsExample name bytes → IsTheEntry wanted told name None
   its-other None name bytes part not = tt
   its-other (Some told) name bytes part not = λ entry is want same.
       let named : name ≡ _ = sym same ∙ is.named in
@@ -79,7 +76,7 @@ module _ (wanted : Option (List ℕ)) where
       subst (IsWanted wanted) (one-key key value entry.key (digest_text entry.bytes) parts.key_digest shown.key (sym parts.joined ∙ sym file ∙ shown.named)) want
 
   pub its-shown : (told : Option Told) (name bytes : List ℕ) (entry : Entry) → IsFirstPart told name 65537 (Some bytes) → IsShown entry → entry.file ≡ name → entry.bytes ≡ bytes → IsWantedName wanted name →
-      Its told name (Some entry)
+      IsTheEntry wanted told name (Some entry)
   its-shown None name bytes entry part shown file holds want = tt
   its-shown (Some told) name bytes entry part shown file holds want = (
     record {
@@ -95,7 +92,7 @@ module _ (wanted : Option (List ℕ)) where
   )
 
   pub its-found : (told : Option Told) (name bytes : List ℕ) (found : Option Entry) → IsFirstPart told name 65537 (Some bytes) →
-      MatchOption found (¬ IsExample name bytes) (λ entry. (entry.file ≡ name) × (entry.bytes ≡ bytes) × IsShown entry) → IsWantedName wanted name → Its told name found
+      MatchOption found (¬ IsExample name bytes) (λ entry. (entry.file ≡ name) × (entry.bytes ≡ bytes) × IsShown entry) → IsWantedName wanted name → IsTheEntry wanted told name found
   its-found told name bytes None part found want = its-other told name bytes part found
   its-found told name bytes (Some entry) part found want = its-shown told name bytes entry part found.2 found.0 found.1 want
 

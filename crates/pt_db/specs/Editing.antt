@@ -5,7 +5,8 @@ use Rattle.pt_disk.specs.Folder.{Folder, After, after_rename, reads, IsImage}
 use Rattle.pt_disk.specs.Moments.{Told, now, Elapsed, BothTell}
 use Rattle.pt_disk.specs.Leaves.{Leaves, IsAtRest}
 use Rattle.pt_disk.specs.declared.change.Change.TheVariants.{Put, Sync, Remove, Settle}
-use Rattle.pt_stored.specs.Stored.{SameStored, pending}
+use Rattle.pt_stored.specs.Digest.{digest_text, file_name}
+use Rattle.pt_stored.specs.Stored.{SameStored, StoredWith, StoredWithout, pending}
 
 -- A crash leaves the stored set of these files, or that with the edit, and no file but the spare one has a put that was not synced.
 abbrev pub LeavesEither : (Files → Files → Type 0) → Files → Folder → Type 0
@@ -24,6 +25,17 @@ pub record Edited (Edit : Files → Files → Type 0) (name : List ℕ) (ok : Bo
 
 abbrev pub Edits : (Files → Files → Type 0) → List ℕ → Bool → Option Told → Option Told → Type 0
 Edits Edit name ok = BothTell (Edited Edit name ok)
+
+-- the name of the file of this value under this key
+abbrev pub name_of : List ℕ → List ℕ → List ℕ
+name_of key value = file_name (digest_text key) value
+
+-- the stored set gets this value of this key, and loses it
+abbrev pub Saves : List ℕ → List ℕ → Bool → Option Told → Option Told → Type 0
+Saves key value = Edits (StoredWith (digest_text key) value) (name_of key value)
+
+abbrev pub Deletes : List ℕ → List ℕ → Bool → Option Told → Option Told → Type 0
+Deletes key value = Edits (StoredWithout (digest_text key) value) (name_of key value)
 
 -- at each moment since the start the folder is as it was then, where this holds of what reads gave
 abbrev pub RestsWhere : (Files → Type 0) → Option Told → Option Told → Type 0

@@ -21,6 +21,10 @@ abbrev pub IsItsEntry : Option (List ℕ) → Files → List ℕ → Option Entr
 IsItsEntry wanted files name None = (entry : Entry) → IsEntry files entry → IsWanted wanted entry.key → entry.file ≢ name
 IsItsEntry wanted files name (Some entry) = IsEntry files entry × IsWanted wanted entry.key × (entry.file ≡ name)
 
+-- the same, where the disk tells
+abbrev pub IsTheEntry : Option (List ℕ) → Option Told → List ℕ → Option Entry → Type 0
+IsTheEntry wanted told name found = IfSome told (λ told. IsItsEntry wanted (reads (now told)) name found)
+
 -- the file of this name has these bytes
 abbrev pub Holds : Option Told → List ℕ → List ℕ → Type 0
 Holds told name bytes = IfSome told (λ told. reads (now told) name ≡ Some bytes)

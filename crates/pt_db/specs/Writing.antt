@@ -1,7 +1,7 @@
 -- How one file of a folder is written or removed.
 use Rattle.std.specs.Prelude.{◌≡◌, ℕ, Bool, true, List, Option}
 use Rattle.pt_disk.specs.Folder.{Folder, reads}
-use Rattle.pt_disk.specs.Moments.{Told, now, Elapsed}
+use Rattle.pt_disk.specs.Moments.{Told, now, Elapsed, BothTell}
 use Rattle.pt_disk.specs.Leaves.{Leaves, OneOf, IsAtRest}
 use Rattle.pt_stored.specs.Stored.{pending}
 
@@ -13,3 +13,6 @@ LeavesOne name file start = Leaves pending (OneOf pending name file (reads start
 pub record Reached (name : List ℕ) (file : Option (List ℕ)) (calls : Folder → Folder) (ok : Bool) (old new : Told) : Type 0 where
   pub here : ok ≡ true → now new ≡ calls (now old)
   pub moments : IsAtRest pending (now old) → Elapsed (LeavesOne name file (now old)) old new
+
+abbrev pub Reaches : List ℕ → Option (List ℕ) → (Folder → Folder) → Bool → Option Told → Option Told → Type 0
+Reaches name file calls ok = BothTell (Reached name file calls ok)

@@ -1,11 +1,9 @@
 ghost use Rattle.std.specs.Prelude.{◌≡◌, ◌↔◌, true, false, length, All, IfOk, IfErr, IfSome, OnErr, IsErrOf, IsTrue};
 ghost use Rattle.std.specs.Option.{option_copied};
-ghost use Rattle.pt_disk.specs.Folder.{reads};
-ghost use Rattle.pt_disk.specs.Moments.{now};
 ghost use Rattle.pt_disk.specs.Calls.{HasCause, Rests};
 ghost use Rattle.pt_stored.specs.Digest.{digest_text};
 ghost use Rattle.pt_stored.specs.Entries.{AreInOrder, IsShown, IsWanted};
-ghost use Rattle.pt_db.specs.Reading.{AreTheEntries, IsWantedName, IsItsEntry};
+ghost use Rattle.pt_db.specs.Reading.{AreTheEntries, IsWantedName, IsTheEntry};
 ghost use Rattle.pt_db.specs.Refusals.{Dies, IsNoClash, IsOutside};
 
 use crate::{Store, StoreFault};
@@ -86,7 +84,7 @@ impl<'d, D: Disk> Store<'d, D> {
     // The entry of the file of this name, where it is an example of a wanted key.
     fn entry(&mut self, name: Octets, wanted: Option<&[u8]>) -> Result<Option<Entry>, StoreFault>
         ensures same_reference { self.new.disk.ghost_name ≡ self.old.disk.ghost_name }
-        ensures its { IfOk result (λ found. IfSome (D.tells self.old.disk.now) (λ told. IsItsEntry (option_copied wanted.entry) (reads (now told)) name found)) }
+        ensures its { IfOk result (IsTheEntry (option_copied wanted.entry) (D.tells self.old.disk.now) name) }
         ensures named { IfOk result (λ found. IfSome found (λ entry. (entry.file ≡ name) × IsShown entry × IsWanted (option_copied wanted.entry) entry.key)) }
         ensures rests { Rests (D.tells self.old.disk.now) (D.tells self.new.disk.now) }
         ensures cause { HasCause (IsErrOf result StoreFault.Disk) (D.faults self.old.disk.now) (D.faults self.new.disk.now) }

@@ -1,13 +1,12 @@
 ghost use Rattle.std.specs.Prelude.{◌≡◌, ◌≢◌, ◌≤◌, ◌⊎◌, ◌↔◌, true, false, length, is_ok, IsErr, IfOk, IfErr, OnOk, OnErr, IsErrOf, Some, None};
-ghost use Rattle.pt_disk.specs.Moments.{BothTell};
 ghost use Rattle.pt_disk.specs.Calls.{HasCause, Rests};
-ghost use Rattle.pt_stored.specs.Digest.{digest_text, file_name};
-ghost use Rattle.pt_stored.specs.Stored.{pending, IsStored, StoredWith, StoredWithout};
+ghost use Rattle.pt_stored.specs.Digest.{digest_text};
+ghost use Rattle.pt_stored.specs.Stored.{pending, IsStored};
 ghost use Rattle.pt_db.specs.declared.fault.StoreFault.TheVariants as fault;
-ghost use Rattle.pt_db.specs.Editing.{Edits, RestsWhere, IsSameOr, saved_as, removed};
+ghost use Rattle.pt_db.specs.Editing.{Saves, Deletes, RestsWhere, IsSameOr, name_of, saved_as, removed};
 ghost use Rattle.pt_db.specs.Reading.{Holds, IsFree};
 ghost use Rattle.pt_db.specs.Refusals.{Dies, ShowsClash, HasNoClash, IsNoDeath};
-ghost use Rattle.pt_db.specs.Writing.{Reached};
+ghost use Rattle.pt_db.specs.Writing.{Reaches};
 
 use crate::{Store, StoreFault};
 use pt_choice::Octets;
@@ -22,15 +21,15 @@ impl<'d, D: Disk> Store<'d, D> {
     pub fn save(&mut self, key: &[u8], value: &[u8]) -> Result<(), StoreFault>
         requires { length value.now ≤ MAX_VALUE }
         ensures same_reference { self.new.disk.ghost_name ≡ self.old.disk.ghost_name }
-        ensures edits { Edits (StoredWith (digest_text key.now) value.now) (file_name (digest_text key.now) value.now) (is_ok result) (D.tells self.old.disk.now) (D.tells self.new.disk.now) }
-        ensures calls { OnOk result (IsSameOr (saved_as (file_name (digest_text key.now) value.now) value.now) (D.tells self.old.disk.now) (D.tells self.new.disk.now)) }
+        ensures edits { Saves key.now value.now (is_ok result) (D.tells self.old.disk.now) (D.tells self.new.disk.now) }
+        ensures calls { OnOk result (IsSameOr (saved_as (name_of key.now value.now) value.now) (D.tells self.old.disk.now) (D.tells self.new.disk.now)) }
         ensures unwritten { RestsWhere (λ files. IsStored files (digest_text key.now) value.now) (D.tells self.old.disk.now) (D.tells self.new.disk.now) }
         ensures unchanged { OnErr result (IsErrOf result StoreFault.Disk ⊎ Rests (D.tells self.old.disk.now) (D.tells self.new.disk.now)) }
         ensures cause { HasCause (IsErrOf result StoreFault.Disk) (D.faults self.old.disk.now) (D.faults self.new.disk.now) }
         ensures dead { IsErrOf result StoreFault.Dead ↔ (self.old.dead ≡ true) }
         ensures dies { Dies (IsErrOf result StoreFault.Disk) self.old.dead self.new.dead }
-        ensures clash { IfErr result (ShowsClash (D.tells self.old.disk.now) (file_name (digest_text key.now) value.now) value.now) }
-        ensures no_clash { OnOk result (HasNoClash (D.tells self.old.disk.now) (file_name (digest_text key.now) value.now) value.now) }
+        ensures clash { IfErr result (ShowsClash (D.tells self.old.disk.now) (name_of key.now value.now) value.now) }
+        ensures no_clash { OnOk result (HasNoClash (D.tells self.old.disk.now) (name_of key.now value.now) value.now) }
     {
         if self.dead {
             return Err(StoreFault::Dead);
@@ -46,15 +45,15 @@ impl<'d, D: Disk> Store<'d, D> {
     /// Removes this value of the key. Where it was not stored, nothing is written.
     pub fn delete(&mut self, key: &[u8], value: &[u8]) -> Result<(), StoreFault>
         ensures same_reference { self.new.disk.ghost_name ≡ self.old.disk.ghost_name }
-        ensures edits { Edits (StoredWithout (digest_text key.now) value.now) (file_name (digest_text key.now) value.now) (is_ok result) (D.tells self.old.disk.now) (D.tells self.new.disk.now) }
-        ensures calls { OnOk result (IsSameOr (removed (file_name (digest_text key.now) value.now)) (D.tells self.old.disk.now) (D.tells self.new.disk.now)) }
+        ensures edits { Deletes key.now value.now (is_ok result) (D.tells self.old.disk.now) (D.tells self.new.disk.now) }
+        ensures calls { OnOk result (IsSameOr (removed (name_of key.now value.now)) (D.tells self.old.disk.now) (D.tells self.new.disk.now)) }
         ensures unwritten { RestsWhere (λ files. ¬ IsStored files (digest_text key.now) value.now) (D.tells self.old.disk.now) (D.tells self.new.disk.now) }
         ensures unchanged { OnErr result (IsErrOf result StoreFault.Disk ⊎ Rests (D.tells self.old.disk.now) (D.tells self.new.disk.now)) }
         ensures cause { HasCause (IsErrOf result StoreFault.Disk) (D.faults self.old.disk.now) (D.faults self.new.disk.now) }
         ensures dead { IsErrOf result StoreFault.Dead ↔ (self.old.dead ≡ true) }
         ensures dies { Dies (IsErrOf result StoreFault.Disk) self.old.dead self.new.dead }
-        ensures clash { IfErr result (ShowsClash (D.tells self.old.disk.now) (file_name (digest_text key.now) value.now) value.now) }
-        ensures no_clash { OnOk result (HasNoClash (D.tells self.old.disk.now) (file_name (digest_text key.now) value.now) value.now) }
+        ensures clash { IfErr result (ShowsClash (D.tells self.old.disk.now) (name_of key.now value.now) value.now) }
+        ensures no_clash { OnOk result (HasNoClash (D.tells self.old.disk.now) (name_of key.now value.now) value.now) }
     {
         if self.dead {
             return Err(StoreFault::Dead);
@@ -100,7 +99,7 @@ impl<'d, D: Disk> Store<'d, D> {
     fn write(&mut self, name: &[u8], bytes: &[u8]) -> Result<(), StoreFault>
         requires { name.now ≢ pending }
         ensures same_reference { self.new.disk.ghost_name ≡ self.old.disk.ghost_name }
-        ensures written { BothTell (Reached name.now (Some bytes.now) (saved_as name.now bytes.now) (is_ok result)) (D.tells self.old.disk.now) (D.tells self.new.disk.now) }
+        ensures written { Reaches name.now (Some bytes.now) (saved_as name.now bytes.now) (is_ok result) (D.tells self.old.disk.now) (D.tells self.new.disk.now) }
         ensures cause { HasCause (IsErr result) (D.faults self.old.disk.now) (D.faults self.new.disk.now) }
         ensures fault { IfErr result (λ refusal. refusal ≡ fault.Disk) }
         ensures dies { Dies (IsErr result) self.old.dead self.new.dead }
@@ -118,7 +117,7 @@ impl<'d, D: Disk> Store<'d, D> {
     // Removes the file of this name.
     fn erase(&mut self, name: &[u8]) -> Result<(), StoreFault>
         ensures same_reference { self.new.disk.ghost_name ≡ self.old.disk.ghost_name }
-        ensures written { BothTell (Reached name.now None (removed name.now) (is_ok result)) (D.tells self.old.disk.now) (D.tells self.new.disk.now) }
+        ensures written { Reaches name.now None (removed name.now) (is_ok result) (D.tells self.old.disk.now) (D.tells self.new.disk.now) }
         ensures cause { HasCause (IsErr result) (D.faults self.old.disk.now) (D.faults self.new.disk.now) }
         ensures fault { IfErr result (λ refusal. refusal ≡ fault.Disk) }
         ensures dies { Dies (IsErr result) self.old.dead self.new.dead }

@@ -8,9 +8,9 @@ use Rattle.pt_disk.specs.Folder.{reads}
 use Rattle.pt_stored.specs.Entries.{IsShown, IsWanted}
 use Rattle.pt_stored.specs.declared.entry.Entry.{Entry}
 use Rattle.pt_stored.proofs.EntryLemmas.{StandIn, stand-skip}
-use Rattle.pt_db.specs.Reading.{IsItsEntry}
+use Rattle.pt_db.specs.Reading.{IsItsEntry, IsTheEntry}
 use Rattle.pt_db.proofs.Telling.{rests-then, rests-back, ok-holds}
-use Rattle.pt_db.proofs.Gathering.{Gathered, Its, gathered-skip, gathered-push, stand-next}
+use Rattle.pt_db.proofs.Gathering.{Gathered, gathered-skip, gathered-push, stand-next}
 use Rattle.pt_db.proofs.store.Store.gathered.Goals as goal
 
 pub returns-then-is_err-clause-rests : goal.returns-then-is_err-clause-rests
@@ -22,7 +22,7 @@ loop-name-preserved g c =
     let wanted = option_copied c.args.wanted in
     let told = g.D.Disk.tells c.args.self.now.disk.now in
     let mid = g.D.Disk.tells c.loop-name.self.disk.now in
-    let its = subst (λ (o : Option Entry). Its wanted mid c.in-Some.name o) c.in-Ok-None.field-0-is c.in-Ok-None.ensures.its in
+    let its = subst (λ (o : Option Entry). IsTheEntry wanted mid c.in-Some.name o) c.in-Ok-None.field-0-is c.in-Ok-None.ensures.its in
     record {
       reference = c.in-Ok-None.ensures.same_reference ∙ before.reference;
       rests = rests-then _ _ _ before.rests c.in-Ok-None.ensures.rests;
@@ -41,7 +41,7 @@ loop-name-preserved-else-is_err g c =
     let mid = g.D.Disk.tells c.loop-name.self.disk.now in
     let name = c.in-Some.name in
     let entry = c.in-Ok-Some.entry in
-    let its = subst (λ (o : Option Entry). Its wanted mid name o) c.in-Ok-Some.field-0-is c.in-Ok-Some.ensures.its in
+    let its = subst (λ (o : Option Entry). IsTheEntry wanted mid name o) c.in-Ok-Some.field-0-is c.in-Ok-Some.ensures.its in
     let named = subst (λ (o : Option Entry). IfSome o (λ entry. (entry.file ≡ name) × IsShown entry × IsWanted wanted entry.key)) c.in-Ok-Some.field-0-is c.in-Ok-Some.ensures.named in
     let pushed : c.push.new.self ≡ c.loop-name.entries ++ entry ∷ [] = ok-holds c.push.result _ (sym c.is_err.ensures.value ∙ c.if-is_err.false) c.push.ensures.ok in
     let all = YieldsList-from_vec c.in-Ok.names (search rules) (search rules) in
