@@ -1,6 +1,6 @@
 -- The entries of a folder, gathered name by name.
-use Rattle.std.proofs.Common.{◌≡◌, ◌⊎◌, inl, inr, ⊎_elim, ℕ, suc, zero, ◌+◌, ◌<◌, ◌≤◌, List, [], ◌∷◌, ◌++◌, length, take, get_or, Option, Some, None, refl, sym, ◌∙◌, ap, subst, arith, length-append}
-use Rattle.std.specs.Prelude.{◌↔◌, Contains, All, AllPairs, IsSome}
+use Rattle.std.proofs.Common.{◌≡◌, ⊎_elim, ℕ, suc, zero, ◌<◌, List, [], ◌∷◌, ◌++◌, length, take, get_or, Option, Some, refl, sym, ◌∙◌, ap, subst, arith}
+use Rattle.std.specs.Prelude.{◌↔◌, Contains, All, IsSome}
 use Rattle.std.specs.Ordering.{nat_cmp}
 use Rattle.std.specs.declared.cmp.Ordering.TheVariants.{Less}
 use Rattle.std.specs.Cmp.Lexicographic.{slice_cmp}
@@ -9,8 +9,6 @@ use Rattle.std.proofs.lemmas.List.Elements.{All-nil, All-push, Contains-get_or, 
 use Rattle.std.proofs.lemmas.List.Quantifiers.{all_pairs_push}
 use Rattle.pt_disk.specs.Files.{Files}
 use Rattle.pt_disk.specs.Calls.{AreOrdered}
-use Rattle.pt_stored.specs.Digest.{IsDigest, file_name}
-use Rattle.pt_stored.specs.Stored.{IsStored}
 use Rattle.pt_stored.specs.Entries.{IsShown, IsEntry, IsWanted, AreEntries, AreInOrder}
 use Rattle.pt_stored.specs.declared.entry.Entry.{Entry}
 use Rattle.pt_stored.proofs.NameLemmas.{one-key}

@@ -1,5 +1,5 @@
 -- Names of examples, and their parts.
-use Rattle.std.proofs.Common.{◌≡◌, ℕ, List, ◌∷◌, ◌++◌, length, take, drop, sym, ◌∙◌, ap}
+use Rattle.std.proofs.Common.{◌≡◌, ℕ, List, ◌∷◌, ◌++◌, take, drop, sym, ◌∙◌, ap}
 use Rattle.std.proofs.lemmas.List.{take_at, drop_at}
 use Rattle.pt_stored.specs.Digest.{IsDigest, IsNameOf, digest_text, file_name}
 use Rattle.pt_stored.specs.Example.{IsExampleOf}

@@ -1,9 +1,9 @@
 -- How the stored set follows the files.
-use Rattle.std.proofs.Common.{◌≡◌, ◌≢◌, ◌⊎◌, inl, inr, ⊎_elim, ℕ, ◌+◌, ◌<◌, ◌≤◌, List, ◌∷◌, ◌++◌, length, take, drop, Option, Some, None, refl, sym, ◌∙◌, ap, subst, arith, length-append}
+use Rattle.std.proofs.Common.{◌≡◌, ◌≢◌, inl, inr, ⊎_elim, ℕ, ◌≤◌, List, ◌∷◌, length, Option, Some, None, refl, sym, ◌∙◌, ap, subst, arith, length-append}
 use Rattle.pt_disk.specs.Files.{Files, SameBut, with_file}
 use Rattle.pt_disk.proofs.Names.{name-cases, with_file-at, with_file-other}
 use Rattle.pt_stored.specs.Digest.{IsDigest, digest_text, file_name}
-use Rattle.pt_stored.specs.Stored.{IsStored, IsPair, SameStored, StoredWith, StoredWithout, HasNoneAlike, pending}
+use Rattle.pt_stored.specs.Stored.{IsStored, SameStored, StoredWith, StoredWithout, HasNoneAlike, pending}
 use Rattle.pt_stored.proofs.NameLemmas.{same-names}
 
 pub some-is : (a b : List ℕ) → Some a ≡ Some b → a ≡ b

@@ -1,10 +1,10 @@
 -- The entries of a folder's files.
-use Rattle.std.specs.Prelude.{◌≡◌, ◌≤◌, ◌↔◌, ℕ, List, Contains, AllPairs, length, Option, Some, None, ⊤}
+use Rattle.std.specs.Prelude.{◌≡◌, ◌↔◌, ℕ, List, Contains, AllPairs, Option, Some, None, ⊤}
 use Rattle.std.specs.Ordering.{nat_cmp}
 use Rattle.std.specs.declared.cmp.Ordering.TheVariants.{Less}
 use Rattle.std.specs.Cmp.Lexicographic.{slice_cmp}
 use Rattle.pt_disk.specs.Files.{Files}
-use Rattle.pt_stored.specs.Digest.{IsDigest, file_name}
+use Rattle.pt_stored.specs.Digest.{file_name}
 use Rattle.pt_stored.specs.Example.{IsExampleOf}
 use Rattle.pt_stored.specs.Stored.{IsStored}
 use Rattle.pt_stored.specs.declared.entry.Entry.{Entry}

@@ -1,5 +1,5 @@
 -- The stored set of a folder's files.
-use Rattle.std.specs.Prelude.{◌≡◌, ◌≢◌, ◌⊎◌, ◌↔◌, ◌≤◌, ℕ, List, length, codes, Some}
+use Rattle.std.specs.Prelude.{◌≡◌, ◌⊎◌, ◌↔◌, ◌≤◌, ℕ, List, length, codes, Some}
 use Rattle.pt_disk.specs.Files.{Files}
 use Rattle.pt_stored.specs.Digest.{IsDigest, digest_text, file_name, AreAlike}
 

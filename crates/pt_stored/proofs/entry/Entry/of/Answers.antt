@@ -1,4 +1,4 @@
-use Rattle.std.proofs.Common.{◌≡◌, ◌∙◌, sym, ap, subst, ℕ, List, arith}
+use Rattle.std.proofs.Common.{◌∙◌, sym, ap, subst, ℕ, List, arith}
 use Rattle.std.specs.Prelude.{not}
 use Rattle.std.specs.Cmp.Lexicographic.{bytes_decides}
 use Rattle.pt_stored.specs.Digest.{IsExampleName, IsNameOf, digest_text}
