@@ -1,10 +1,10 @@
 -- What a settle does to a folder.
-use Rattle.std.proofs.Common.{◌≡◌, ⊎_elim, ℕ, Bool, true, List, Option, refl, sym, ap, subst}
-use Rattle.pt_disk.specs.Files.{Files, SameBut}
-use Rattle.pt_disk.specs.Folder.{Folder, After, reads, IsImage, is_unsynced}
+use Rattle.std.proofs.Common.{◌≡◌, ⊎_elim, Bool, true, Option, refl, sym, ap, subst}
+use Rattle.pt_disk.specs.Files.{Files}
+use Rattle.pt_disk.specs.Folder.{Folder, After, reads, IsImage}
 use Rattle.pt_disk.specs.Moments.{Told, now, Elapsed, IsWithin, BothTell}
 use Rattle.pt_disk.specs.Calls.{Changed, Changes}
-use Rattle.pt_disk.specs.Leaves.{Leaves, IsTidy, IsAtRest}
+use Rattle.pt_disk.specs.Leaves.{IsTidy, IsAtRest}
 use Rattle.pt_disk.specs.declared.change.Change.TheVariants.{Settle}
 use Rattle.pt_disk.proofs.Folders.{only-settled, reads-image}
 use Rattle.pt_disk.proofs.Settling.{settle-image}

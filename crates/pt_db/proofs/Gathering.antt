@@ -1,16 +1,16 @@
 -- The entries of the wanted keys, gathered name by name.
-use Rattle.std.proofs.Common.{◌≡◌, ◌≢◌, ℕ, ◌<◌, List, [], ◌∷◌, ◌++◌, length, get_or, Option, Some, None, refl, sym, ◌∙◌, ap, subst, arith}
+use Rattle.std.proofs.Common.{◌≡◌, ℕ, ◌<◌, List, [], ◌∷◌, ◌++◌, length, get_or, Option, Some, None, sym, ◌∙◌, ap, subst, arith}
 use Rattle.std.specs.Prelude.{Bool, IfSome, IsTrue, MatchOption, nat_eq, take}
 use Rattle.std.specs.Cmp.Lexicographic.{pointwise, bytes_decides, slice_cmp}
 use Rattle.std.specs.Option.{option_map}
 use Rattle.std.specs.Ordering.{nat_cmp}
 use Rattle.std.specs.declared.cmp.Ordering.TheVariants.{Less}
-use Rattle.pt_disk.specs.Folder.{Folder, reads}
+use Rattle.pt_disk.specs.Folder.{reads}
 use Rattle.pt_disk.specs.Moments.{Told, now}
 use Rattle.pt_disk.specs.Calls.{AreNames, AreOrdered, IsFirstPart}
 use Rattle.pt_stored.specs.Digest.{IsNameOf, digest_text}
 use Rattle.pt_stored.specs.Example.{IsExample, IsExampleOf}
-use Rattle.pt_stored.specs.Entries.{IsEntry, IsWanted, IsShown}
+use Rattle.pt_stored.specs.Entries.{IsWanted, IsShown}
 use Rattle.pt_stored.specs.declared.entry.Entry.{Entry}
 use Rattle.pt_stored.proofs.NameLemmas.{one-key, example-name}
 use Rattle.pt_stored.proofs.EntryLemmas.{AreFrom, from-none, from-skip, from-push, from-all, StandIn, stand-push, before-next}

@@ -1,5 +1,5 @@
 -- What the first part of a file tells of it.
-use Rattle.std.proofs.Common.{◌≡◌, ◌≢◌, inl, inr, ⊎_elim, ℕ, ◌<◌, ◌≤◌, List, length, take, Option, Some, None, refl, sym, ◌∙◌, ap, subst, arith}
+use Rattle.std.proofs.Common.{◌≡◌, ◌≢◌, ⊎_elim, ℕ, ◌<◌, ◌≤◌, List, length, take, Option, Some, None, sym, ◌∙◌, ap, arith}
 use Rattle.std.proofs.lemmas.List.{take_all, length-take-le}
 use Rattle.std.proofs.lemmas.Bool.{cases_lt}
 use Rattle.std.specs.Option.{option_map}
@@ -7,12 +7,9 @@ use Rattle.pt_disk.specs.Folder.{reads}
 use Rattle.pt_disk.specs.Moments.{Told, now}
 use Rattle.pt_disk.specs.Calls.{IsFirstPart}
 use Rattle.pt_stored.specs.Digest.{digest_text}
-use Rattle.pt_stored.proofs.Digests.{same-text}
 use Rattle.pt_stored.specs.Digest.{AreAlike}
 use Rattle.pt_stored.specs.Stored.{IsClash}
-use Rattle.pt_stored.proofs.SetLemmas.{some-is}
 use Rattle.pt_db.specs.Reading.{Holds, IsFree}
-use Rattle.pt_db.specs.Refusals.{HasNoClash}
 use Rattle.std.specs.Prelude.{IfSome}
 
 -- a part that is shorter than what was asked for is the whole file

@@ -4,17 +4,17 @@ use Rattle.pt_disk.specs.Files.{Files, SameBut, with_file}
 use Rattle.pt_disk.specs.Folder.{Folder, reads, IsImage}
 use Rattle.pt_disk.specs.Moments.{Told, now, Elapsed, IsImageSince, BothTell}
 use Rattle.pt_disk.specs.Calls.{Rests}
-use Rattle.pt_disk.specs.Leaves.{Leaves, OneOf, IsAtRest}
+use Rattle.pt_disk.specs.Leaves.{OneOf, IsAtRest}
 use Rattle.pt_disk.proofs.Names.{with_file-other}
 use Rattle.pt_disk.proofs.Folders.{leaves-weaker}
 use Rattle.pt_disk.proofs.Times.{elapsed-then, elapsed-weaker, elapsed-images}
 use Rattle.pt_stored.specs.Digest.{IsDigest, file_name}
 use Rattle.pt_stored.specs.Stored.{IsStored, SameStored, StoredWith, StoredWithout, pending}
 use Rattle.pt_stored.proofs.SetLemmas.{same-stored, stored-with, stored-without, stored-already, stored-not}
-use Rattle.pt_db.specs.Editing.{LeavesEither, Edited, Edits, RestsWhere, IsSameOr, saved_as, removed}
+use Rattle.pt_db.specs.Editing.{LeavesEither, Edited, Edits, RestsWhere, saved_as, removed}
 use Rattle.pt_db.specs.Reading.{Holds, IsFree}
 use Rattle.pt_db.specs.Writing.{LeavesOne, Reached}
-use Rattle.pt_db.proofs.Telling.{both-then, both-weaker, IsAsAt, rested}
+use Rattle.pt_db.proofs.Telling.{both-weaker, IsAsAt, rested}
 use Rattle.pt_db.proofs.Attaching.{rest-kept}
 use Rattle.pt_db.proofs.Writing.{written-reads, written-rests, removed-reads, removed-rests}
 

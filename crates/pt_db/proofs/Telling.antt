@@ -1,5 +1,5 @@
 -- What holds of what two disks tell.
-use Rattle.std.proofs.Common.{◌≡◌, Option, Some, None, refl, sym, ◌∙◌, subst}
+use Rattle.std.proofs.Common.{◌≡◌, Option, Some, None, refl, ◌∙◌, subst}
 use Rattle.std.specs.Prelude.{Result, Ok, Err, is_err, false, IfSome, OnOk}
 use Rattle.pt_disk.specs.Folder.{Folder}
 use Rattle.pt_disk.specs.Moments.{Told, now, Elapsed, BothTell}

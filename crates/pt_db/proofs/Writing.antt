@@ -1,14 +1,14 @@
 -- The four calls that write a file, and the two that remove one.
 use Rattle.std.proofs.Common.{◌≡◌, ◌≢◌, inl, inr, ℕ, Bool, true, false, List, Option, Some, None, Result, Ok, Err, IsErr, is_ok, refl, sym, ◌∙◌, ap, subst}
 use Rattle.std.specs.Prelude.{if◌then◌else◌, not, ◌&&◌, is_some}
-use Rattle.pt_disk.specs.Files.{Files, SameBut, with_file, is_name}
+use Rattle.pt_disk.specs.Files.{SameBut, with_file, is_name}
 use Rattle.pt_disk.specs.Folder.{Folder, After, reads, is_unsynced, after_rename}
-use Rattle.pt_disk.specs.Moments.{Told, now, Elapsed, IsWithin, BothTell}
+use Rattle.pt_disk.specs.Moments.{Told, now, IsWithin, BothTell}
 use Rattle.pt_disk.specs.Calls.{Changed, Changes, IsThere}
-use Rattle.pt_disk.specs.Leaves.{Leaves, Only, OneOf, IsAtRest}
+use Rattle.pt_disk.specs.Leaves.{Only, OneOf, IsAtRest}
 use Rattle.pt_disk.specs.declared.change.Change.TheVariants.{Put, Sync, Rename, Remove, Settle}
 use Rattle.pt_disk.proofs.Names.{name-same, name-other}
-use Rattle.pt_disk.proofs.Folders.{leaves-within, leaves-weaker, only-put, only-sync, one-renamed, reads-renamed, one-removed, reads-removed, only-settled}
+use Rattle.pt_disk.proofs.Folders.{leaves-within, leaves-weaker, only-put, only-sync, one-renamed, one-removed, only-settled}
 use Rattle.pt_disk.proofs.Times.{elapsed-none, elapsed-then, elapsed-weaker}
 use Rattle.pt_stored.specs.Stored.{pending}
 use Rattle.pt_db.specs.Editing.{saved_as, removed}

@@ -1,9 +1,9 @@
 -- What an attach does to a folder.
 use Rattle.std.specs.Prelude.{◌≡◌, ℕ, Bool, true, List}
 use Rattle.pt_disk.specs.Files.{Files}
-use Rattle.pt_disk.specs.Folder.{Folder, After, reads, IsImage}
+use Rattle.pt_disk.specs.Folder.{After, reads, IsImage}
 use Rattle.pt_disk.specs.Moments.{Told, now, Elapsed}
-use Rattle.pt_disk.specs.Leaves.{Leaves, IsTidy, IsAtRest}
+use Rattle.pt_disk.specs.Leaves.{IsTidy, IsAtRest}
 use Rattle.pt_disk.specs.declared.change.Change.TheVariants.{Settle}
 use Rattle.pt_stored.specs.Stored.{SameStored, pending}
 

@@ -1,5 +1,5 @@
-use Rattle.std.proofs.Common.{◌≡◌, ◌∙◌, subst, List, ℕ, None, is_ok, refl}
-use Rattle.pt_disk.specs.Moments.{BothTell, now, Elapsed}
+use Rattle.std.proofs.Common.{◌∙◌, subst, List, ℕ, None, is_ok}
+use Rattle.pt_disk.specs.Moments.{BothTell, Elapsed}
 use Rattle.pt_stored.specs.Digest.{digest_text, file_name}
 use Rattle.pt_stored.specs.Stored.{IsStored, StoredWithout}
 use Rattle.pt_stored.proofs.Digests.{is-digest}

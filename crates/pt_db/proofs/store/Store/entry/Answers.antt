@@ -1,4 +1,4 @@
-use Rattle.std.proofs.Common.{◌≡◌, sym, subst, List, ℕ, Option, Some, false, true, ◌∙◌}
+use Rattle.std.proofs.Common.{sym, subst, List, ℕ, Some, ◌∙◌}
 use Rattle.std.specs.Option.{option_copied}
 use Rattle.pt_disk.specs.Calls.{IsFirstPart}
 use Rattle.pt_db.specs.Reading.{IsWantedName}

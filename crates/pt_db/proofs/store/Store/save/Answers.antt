@@ -1,4 +1,4 @@
-use Rattle.std.proofs.Common.{◌≡◌, ◌∙◌, sym, subst, List, ℕ, Some, is_ok}
+use Rattle.std.proofs.Common.{◌∙◌, sym, subst, List, ℕ, Some, is_ok}
 use Rattle.pt_disk.specs.Moments.{BothTell}
 use Rattle.pt_stored.specs.Digest.{digest_text, file_name}
 use Rattle.pt_stored.specs.Stored.{StoredWith}
