@@ -31,12 +31,12 @@ list: 12";
 // The call that fails, and what the calls answer then. The attach is call 1, a save five calls, and a save of what is stored one.
 const FAILURES: [(u64, &str); 10] = [
     (2, "list: disk\nlist: dead"),
-    (
-        2,
-        "save abc 12: disk\nfetch abc: dead\nlist: dead\nsave abc 3: dead\ndelete abc 3: dead",
-    ),
+    (2, "save abc 12: disk\nfetch abc: dead\nlist: dead"),
     (3, "save abc 12: disk\nfetch abc: dead"),
-    (4, "save abc 12: disk\nsave abc 12: dead"),
+    (
+        4,
+        "save abc 12: disk\nsave abc 12: dead\ndelete abc 3: dead",
+    ),
     (5, "save abc 12: disk\nlist: dead"),
     (6, "save abc 12: disk\ndelete abc 12: dead"),
     (8, "save abc 12: ok\nsave abc 12: ok\nlist: disk"),

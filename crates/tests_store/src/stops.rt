@@ -65,8 +65,8 @@ fn stops_so(alloc: Global, row: (u64, &str, &str, &str, &str)) -> Result<bool, F
 
 #[test]
 fn a_stop_leaves_old_or_new(rt: HostRuntime) -> Result<(), Fail> {
-    for row in STOPS {
-        assert!(rt; stops_so(rt.alloc(), row)?, "{row:?}");
+    for (row, stop) in STOPS.iter().enumerate() {
+        assert!(rt; stops_so(rt.alloc(), *stop)?, "row {row}");
     }
     Ok(())
 }
