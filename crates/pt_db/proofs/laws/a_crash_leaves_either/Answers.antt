@@ -1,0 +1,9 @@
+use Rattle.pt_stored.specs.Stored.{StoredWith, StoredWithout, pending}
+use Rattle.pt_db.proofs.Saving.{either-since}
+use Rattle.pt_db.proofs.laws.a_crash_leaves_either.Goals as goal
+
+pub returns-clause-saved : goal.returns-clause-saved
+returns-clause-saved c = λ digest bytes. either-since (StoredWith digest bytes) pending
+
+pub returns-clause-deleted : goal.returns-clause-deleted
+returns-clause-deleted c = λ digest bytes. either-since (StoredWithout digest bytes) pending

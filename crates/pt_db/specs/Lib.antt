@@ -1,0 +1,5 @@
+pub mod Attaching
+pub mod Editing
+pub mod Reading
+pub mod Refusals
+pub mod Writing

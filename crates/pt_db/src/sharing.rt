@@ -1,0 +1,6 @@
+use crate::StoreFault;
+use pt_choice::may_be_shared;
+
+fn workers_share_them() {
+    may_be_shared::<StoreFault>();
+}

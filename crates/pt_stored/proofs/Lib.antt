@@ -1,0 +1,4 @@
+pub mod Digests
+pub mod EntryLemmas
+pub mod NameLemmas
+pub mod SetLemmas

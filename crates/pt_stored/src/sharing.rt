@@ -1,0 +1,7 @@
+use crate::{Entries, Entry};
+use pt_choice::may_be_shared;
+
+fn workers_share_them() {
+    may_be_shared::<Entry>();
+    may_be_shared::<Entries>();
+}
