@@ -1,6 +1,5 @@
 -- What the check of an expression comes to.
-use Rattle.std.proofs.Common.{◌≡◌, ℤ, Bool, true, false, Option, Some, None, Result, Ok, Err, List, [], ◌∷◌, refl, sym, ◌∙◌, ap, subst, inl, inr}
-use Rattle.std.specs.Prelude.{◌≢◌, ◌⊎◌, if◌then◌else◌}
+use Rattle.std.proofs.Common.{◌≡◌, Result, List, [], ◌∷◌, refl, sym, subst}
 use Rattle.pt_val.specs.declared.place.Place.{Place}
 use Rattle.pt_ast.specs.declared.expr.Func.{Func}
 use Rattle.pt_ast.specs.declared.expr.Func.TheVariants.{Len}
@@ -8,15 +7,14 @@ use Rattle.pt_ast.specs.declared.ident.Ident.{Ident}
 use Rattle.pt_ast.specs.Types.{TypeTree, Int_type, Bool_type, Text_type, Bytes_type, List_type, Tuple_type, TypeTrees, no_type, more_type, types_in}
 use Rattle.pt_ast.specs.Trees.{ExprTree, Num, Text_of, Bytes_of, Flag, Var, If_of, Or_of, And_of, Not_of, Compare_of, Sum_of, Prod_of, Neg_of, Post_of, Call_of, Bind_of, Bracket_of, Tuple_of, List_of, ExprTrees, no_expr, more_expr, tail_of, TailTrees, no_tail, more_tail, index_of, part_of, PostTrees, no_post, more_post, place_of}
 use Rattle.pt_ast.specs.Names.{Scope, type_in, IsFree, with_name}
-use Rattle.pt_ast.specs.Typing.{HasMember, HasPart, Compares, Takes, Yields, HasType, HaveType, HaveTypes, AreNumbers, Reaches}
+use Rattle.pt_ast.specs.Typing.{Compares, Takes, Yields, HasType, HaveType, HaveTypes, AreNumbers, Reaches}
 use Rattle.pt_typing.specs.Fault.{Fault, Wrong}
-use Rattle.pt_typing.specs.Steps.{right}
-use Rattle.pt_typing.specs.Served.{list_member, index_member, tuple_types, part_at, left_side, bound_type, takes_one, given_alone, second_needed, given_both}
-use Rattle.pt_typing.specs.Serving.{Is, IsList, ServesBinder, ServesAlone, ServesFirst, ServesSecond, TakesOne, TakesTwo}
-use Rattle.pt_typing.specs.ExprChecks.{takes, free, call_alone, call_both, checked, all_of, each_of, numbers, reached}
-use Rattle.pt_typing.specs.ExprFaults.{IsWrong, Misfits, Unfit, IsTaken, FaultIn, FaultAmong, FaultInEach, FaultInTails, FaultBehind}
+use Rattle.pt_typing.specs.Served.{list_member, index_member, tuple_types, part_at, left_side, bound_type}
+use Rattle.pt_typing.specs.Serving.{IsList, ServesBinder}
+use Rattle.pt_typing.specs.ExprChecks.{takes, free, checked, all_of, each_of, numbers, reached}
+use Rattle.pt_typing.specs.ExprFaults.{Misfits, IsTaken, FaultIn, FaultAmong, FaultInEach, FaultInTails, FaultBehind}
 use Rattle.pt_typing.specs.Laws.{IsCheck}
-use Rattle.pt_typing.proofs.Steps.{means, blames, ok-check, err-check, after-check, next-check, giving-check, made-check, known-check, vacant-check, right-check}
+use Rattle.pt_typing.proofs.Steps.{means, ok-check, err-check, after-check, next-check, giving-check, made-check, known-check, vacant-check, right-check}
 use Rattle.pt_typing.proofs.Serving.{takes-check, needs-check, list-finds, index-finds, tuple-finds, part-finds, side-finds, bound-finds, call_alone-check, call_both-check}
 
 pub free-check : (scope : Scope) (given : Ident) → IsCheck (λ _. IsFree scope given) (IsTaken scope given) (free scope given)

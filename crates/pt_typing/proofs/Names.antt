@@ -1,10 +1,10 @@
 -- Characters and names that stand once.
-use Rattle.std.proofs.Common.{◌≡◌, ℕ, Bool, true, false, Result, Ok, Err, List, [], ◌∷◌, ◌++◌, map, refl, sym, ◌∙◌, ap, subst, append_assoc}
-use Rattle.std.specs.Prelude.{◌==◌, ◌||◌, if◌then◌else◌}
+use Rattle.std.proofs.Common.{◌≡◌, ℕ, Bool, true, false, Result, List, [], ◌∷◌, ◌++◌, map, refl, sym, ◌∙◌, ap, subst, append_assoc}
+use Rattle.std.specs.Prelude.{◌==◌, ◌||◌}
 use Rattle.std.specs.Cmp.Lexicographic.{pointwise, nat_list_eq_equiv, bytes_decides}
 use Rattle.std.specs.List.{IsDistinct, AllByRecursion, list_any, Contains}
 use Rattle.std.proofs.lemmas.List.{append-nil}
-use Rattle.std.proofs.lemmas.Map.Keys.{IsDistinct-head, IsDistinct-tail, IsDistinct-cons, IsDistinct-push}
+use Rattle.std.proofs.lemmas.Map.Keys.{IsDistinct-head, IsDistinct-tail, IsDistinct-push}
 use Rattle.std.proofs.lemmas.Map.Views.{Contains-from_any, list_any-from_Contains}
 use Rattle.pt_ast.specs.declared.ident.Ident.{Ident}
 use Rattle.pt_ast.specs.declared.strat.Alphabet.{Alphabet}
@@ -100,5 +100,7 @@ named-check named Good Faulty check each (first ∷ others) seen distinct =
     (λ good. named-check named Good Faulty check each others (seen ++ name ∷ [])
     (IsDistinct-push nat_list_eq_equiv seen name distinct (lost name seen (list_any (pointwise ◌==◌ name) seen) refl new)))))
     (λ v so. (subst AreDistinct (append_assoc seen (name ∷ []) rest) so.1.1.0, (so.1.0, so.1.1.1)))
-    (λ v so. ((λ contained. let found = contained-found name seen contained in let none = new-name seen name rest so.0 in cc),
-    (so.1.0, (subst AreDistinct (sym (append_assoc seen (name ∷ []) rest)) so.0, so.1.1))))
+    (λ v so. (
+      (λ contained. let found = contained-found name seen contained in let none = new-name seen name rest so.0 in cc),
+      (so.1.0, (subst AreDistinct (sym (append_assoc seen (name ∷ []) rest)) so.0, so.1.1)),
+    ))

@@ -1,6 +1,6 @@
 -- What is taken of a part, and which parts serve.
-use Rattle.std.proofs.Common.{◌≡◌, ℤ, pos, negsuc, Bool, true, false, Option, Some, None, Result, Ok, Err, List, [], ◌∷◌, refl, sym, ◌∙◌, ap, subst, inl, inr}
-use Rattle.std.specs.Prelude.{◌≢◌, ◌⊎◌, if◌then◌else◌}
+use Rattle.std.proofs.Common.{◌≡◌, ℤ, pos, negsuc, Bool, true, false, Option, Some, None, Result, Err, [], ◌∷◌, refl, sym, ◌∙◌, ap, subst, inl, inr}
+use Rattle.std.specs.Prelude.{◌⊎◌, if◌then◌else◌}
 use Rattle.pt_val.specs.declared.place.Place.{Place}
 use Rattle.pt_ast.specs.declared.expr.Binder.{Binder}
 use Rattle.pt_ast.specs.declared.expr.Binder.TheVariants.{All, Any, Each}
@@ -13,7 +13,7 @@ use Rattle.pt_ast.specs.Typing.{IsSequence, HasMember, HasPart, Compares, Takes,
 use Rattle.pt_typing.specs.Fault.{Fault, Wrong}
 use Rattle.pt_typing.specs.Steps.{after, giving, right}
 use Rattle.pt_typing.specs.Served.{same_type, if_same, list_member, index_member, tuple_types, part_at, of_sequence, left_side, bound_type, takes_one, given_alone, second_needed, given_both}
-use Rattle.pt_typing.specs.Serving.{Is, IsList, HasMembers, IsTuple, ServesBinder, ServesAlone, ServesFirst, ServesSecond, TakesOne, TakesTwo}
+use Rattle.pt_typing.specs.Serving.{Is, ServesAlone, ServesFirst, ServesSecond, TakesOne, TakesTwo}
 use Rattle.pt_typing.specs.ExprChecks.{needs, takes, call_alone, call_both}
 use Rattle.pt_typing.specs.ExprFaults.{IsWrong, Misfits}
 use Rattle.pt_typing.specs.Laws.{IsCheck}
@@ -247,8 +247,11 @@ pair-there : (Have : TypeTree → Type 0) (Faulty : Fault → Type 0) (place : P
     NeededFaults Have Faulty place Own Bad other func fault → PairFaults Have Faulty place Own Bad other func fault
 pair-there Have Faulty place Own Bad other func fault (inl bad) = inl bad
 pair-there Have Faulty place Own Bad other func fault (inr (needed, (first, have, beside), bad)) =
-    inr (first, (have, (needed, given_both func needed, both-taken func first needed beside)),
-    misfits-more Own Bad other (Is needed) (ServesSecond func first) (second-there func first needed beside) fault bad)
+    inr (
+      first,
+      (have, (needed, given_both func needed, both-taken func first needed beside)),
+      misfits-more Own Bad other (Is needed) (ServesSecond func first) (second-there func first needed beside) fault bad,
+    )
 
 pair-back : (Have : TypeTree → Type 0) (Faulty : Fault → Type 0) (place : Place) (Own : TypeTree → Type 0) (Bad : Fault → Type 0) (other : Place) (func : Func) (fault : Fault) →
     PairFaults Have Faulty place Own Bad other func fault → NeededFaults Have Faulty place Own Bad other func fault

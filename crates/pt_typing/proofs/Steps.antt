@@ -1,6 +1,6 @@
 -- What a check comes to that is made of checks.
-use Rattle.std.proofs.Common.{◌≡◌, Bool, true, false, Option, Some, None, Result, Ok, Err, refl, sym, ◌∙◌, ap, subst, inl, inr}
-use Rattle.std.specs.Prelude.{◌≢◌, ◌⊎◌, if◌then◌else◌}
+use Rattle.std.proofs.Common.{◌≡◌, Bool, true, false, Option, Some, None, Result, Ok, Err, refl, sym, ◌∙◌, ap, inl, inr}
+use Rattle.std.specs.Prelude.{◌⊎◌, if◌then◌else◌}
 use Rattle.pt_val.specs.declared.place.Place.{Place}
 use Rattle.pt_typing.specs.Fault.{Fault, Unknown, Twice, Wrong}
 use Rattle.pt_typing.specs.Steps.{after, next_to, giving, made_of, known, vacant, right}

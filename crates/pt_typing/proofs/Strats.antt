@@ -1,12 +1,10 @@
 -- What the check of a strategy comes to.
-use Rattle.std.proofs.Common.{◌≡◌, Option, Some, None, Result, Ok, Err, refl, sym, ◌∙◌, ap, subst}
-use Rattle.std.specs.Prelude.{◌==◌}
-use Rattle.std.specs.List.{IsDistinct}
+use Rattle.std.proofs.Common.{◌≡◌, Option, Some, refl, sym, subst}
 use Rattle.pt_ast.specs.Types.{TypeTree, Int_type, Bool_type, Text_type, Bytes_type, List_type, Tuple_type, TypeTrees, no_type, more_type}
 use Rattle.pt_ast.specs.Trees.{ExprTree, place_of, StratTree, Ints_of, Bools_of, Texts_of, Blobs_of, Sampled_of, Lists_of, Tuples_of, OneOf_of, Map_of, Filter_of, FlatMap_of, Recursive_of, Self_of, StratTrees, no_strat, more_strat, strat_place_of}
-use Rattle.pt_ast.specs.Names.{Scope, IsFree, with_name}
+use Rattle.pt_ast.specs.Names.{Scope, with_name}
 use Rattle.pt_ast.specs.Typing.{HasType, Draws, AllDraw, DrawEach}
-use Rattle.pt_typing.specs.Fault.{Fault, Wrong}
+use Rattle.pt_typing.specs.Fault.{Wrong}
 use Rattle.pt_typing.specs.StratChecks.{bounds, drawn, all_drawn, each_drawn}
 use Rattle.pt_typing.specs.StratFaults.{FaultInBounds, FaultInStrat, FaultAmongStrats, FaultInEachStrat}
 use Rattle.pt_typing.specs.Laws.{IsCheck}

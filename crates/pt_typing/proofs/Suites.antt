@@ -1,21 +1,21 @@
 -- What the check of a suite comes to.
-use Rattle.std.proofs.Common.{◌≡◌, ℕ, Bool, true, false, Option, Some, None, Result, Ok, Err, List, [], ◌∷◌, ◌++◌, map, refl, sym, ◌∙◌, ap, subst}
-use Rattle.std.specs.Prelude.{◌==◌, ◌⊎◌, if◌then◌else◌}
+use Rattle.std.proofs.Common.{◌≡◌, ℕ, true, Option, Some, None, Result, Ok, List, [], ◌∷◌, refl}
+use Rattle.std.specs.Prelude.{◌==◌}
 use Rattle.std.specs.Cmp.Lexicographic.{pointwise}
 use Rattle.std.specs.List.{AllByRecursion, list_any, Contains}
 use Rattle.std.specs.Option.{option_to_list}
 use Rattle.pt_ast.specs.declared.ident.Ident.{Ident}
 use Rattle.pt_ast.specs.Types.{TypeTree, Bool_type}
-use Rattle.pt_ast.specs.Trees.{ExprTree, place_of, StmtTree, Draw_of, Let_of, Assume_of, Assert_of, Pick_of, Set_of, Give_of, StateTree, RuleTree, MachineTree, BodyTree, Check_of, Property_of, Machine_of, ItemTree, SuiteTree}
+use Rattle.pt_ast.specs.Trees.{ExprTree, place_of, StmtTree, Draw_of, Let_of, Assume_of, Assert_of, Pick_of, Set_of, Give_of, StateTree, RuleTree, MachineTree, BodyTree, Check_of, Property_of, Machine_of, SuiteTree}
 use Rattle.pt_ast.specs.Bounds.{gives}
-use Rattle.pt_ast.specs.Names.{Scope, type_in, with_name, AreDistinct}
-use Rattle.pt_ast.specs.Typing.{HasType, Draws}
+use Rattle.pt_ast.specs.Names.{Scope, type_in, with_name}
+use Rattle.pt_ast.specs.Typing.{HasType}
 use Rattle.pt_ast.specs.Suites.{Context, no_context, Binds, BindAll, Declare, bundles_of, Targets, IsTypedRule, IsTypedMachine, IsTypedBody, IsTypedItem, IsTyped}
 use Rattle.pt_typing.specs.Fault.{Fault, Wrong, UnknownCheck}
-use Rattle.pt_typing.specs.SuiteChecks.{condition, bound, bound_by_all, declared, in_order, each_named, target_of, given_into, checked_rule, checked_machine, checked_body, checked_suite}
-use Rattle.pt_typing.specs.SuiteFaults.{FaultInCondition, FaultInStmt, FaultInStmts, FaultInStates, FaultInOrder, FaultInNamed, UnknownTarget, Leads, NeverGives, seen_by, FaultInRule, FaultInMachine, FaultInBody, FaultInSuite}
+use Rattle.pt_typing.specs.SuiteChecks.{condition, bound, bound_by_all, declared, in_order, target_of, given_into, checked_rule, checked_machine, checked_body, checked_suite}
+use Rattle.pt_typing.specs.SuiteFaults.{FaultInCondition, FaultInStmt, FaultInStmts, FaultInStates, FaultInOrder, UnknownTarget, Leads, NeverGives, seen_by, FaultInRule, FaultInMachine, FaultInBody, FaultInSuite}
 use Rattle.pt_typing.specs.Laws.{IsCheck}
-use Rattle.pt_typing.proofs.Steps.{Finds, means, blames, ok-check, after-check, next-check, giving-check, made-check, known-check, right-check, if-check}
+use Rattle.pt_typing.proofs.Steps.{means, ok-check, after-check, next-check, giving-check, made-check, known-check, right-check, if-check}
 use Rattle.pt_typing.proofs.Serving.{needs-check}
 use Rattle.pt_typing.proofs.Exprs.{free-check, expr-check}
 use Rattle.pt_typing.proofs.Strats.{strat-check}

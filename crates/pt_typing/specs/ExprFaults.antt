@@ -1,5 +1,5 @@
 -- The first fault of an expression, as a relation: here is a fault, and all that stands before it is right.
-use Rattle.std.specs.Prelude.{◌≡◌, ◌⊎◌, Option, Some, None}
+use Rattle.std.specs.Prelude.{◌≡◌, ◌⊎◌, None}
 use Rattle.pt_val.specs.declared.place.Place.{Place}
 use Rattle.pt_ast.specs.declared.ident.Ident.{Ident}
 use Rattle.pt_ast.specs.Types.{TypeTree, Int_type, Bool_type, List_type, Tuple_type, TypeTrees}

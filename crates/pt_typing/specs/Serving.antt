@@ -1,5 +1,5 @@
 -- Which types serve at a place of an expression.
-use Rattle.std.specs.Prelude.{◌≡◌, List, [], ◌∷◌, Option, ℤ}
+use Rattle.std.specs.Prelude.{◌≡◌, [], ◌∷◌, ℤ}
 use Rattle.pt_ast.specs.declared.expr.Binder.{Binder}
 use Rattle.pt_ast.specs.declared.expr.Func.{Func}
 use Rattle.pt_ast.specs.Types.{TypeTree, List_type, Tuple_type, TypeTrees}

@@ -1,7 +1,6 @@
 -- What the check of a strategy comes to: the type of its values, or its first fault.
 use Rattle.std.specs.Prelude.{ℕ, ◌==◌, Bool, false, ◌||◌, Option, Some, Result, Ok, Err, List, [], ◌∷◌, if◌then◌else◌}
 use Rattle.std.specs.List.{list_any}
-use Rattle.pt_val.specs.declared.place.Place.{Place}
 use Rattle.pt_ast.specs.declared.strat.Alphabet.{Alphabet}
 use Rattle.pt_ast.specs.Types.{TypeTree, Int_type, Bool_type, Text_type, Bytes_type, List_type, Tuple_type, TypeTrees, no_type, more_type}
 use Rattle.pt_ast.specs.Trees.{ExprTree, place_of, StratTree, Ints_of, Bools_of, Texts_of, Blobs_of, Sampled_of, Lists_of, Tuples_of, OneOf_of, Map_of, Filter_of, FlatMap_of, Recursive_of, Self_of, StratTrees, no_strat, more_strat, strat_place_of}

@@ -5,7 +5,7 @@ use Rattle.std.specs.List.{list_any}
 use Rattle.std.specs.Option.{option_to_list}
 use Rattle.pt_ast.specs.declared.ident.Ident.{Ident}
 use Rattle.pt_ast.specs.Types.{TypeTree, Bool_type}
-use Rattle.pt_ast.specs.Trees.{ExprTree, place_of, StmtTree, Draw_of, Let_of, Assume_of, Assert_of, Pick_of, Set_of, Give_of, StateTree, RuleTree, MachineTree, BodyTree, Check_of, Property_of, Machine_of, ItemTree, SuiteTree}
+use Rattle.pt_ast.specs.Trees.{ExprTree, place_of, StmtTree, Draw_of, Let_of, Assume_of, Assert_of, Pick_of, Set_of, Give_of, StateTree, RuleTree, MachineTree, BodyTree, Check_of, Property_of, Machine_of, SuiteTree}
 use Rattle.pt_ast.specs.Bounds.{gives}
 use Rattle.pt_ast.specs.Names.{Scope, type_in, with_name}
 use Rattle.pt_ast.specs.Suites.{Context, no_context, bundles_of}

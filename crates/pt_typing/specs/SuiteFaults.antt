@@ -4,10 +4,10 @@ use Rattle.std.specs.List.{AllByRecursion, list_any}
 use Rattle.std.specs.Option.{option_to_list}
 use Rattle.pt_ast.specs.declared.ident.Ident.{Ident}
 use Rattle.pt_ast.specs.Types.{TypeTree, Bool_type}
-use Rattle.pt_ast.specs.Trees.{ExprTree, StmtTree, Draw_of, Let_of, Assume_of, Assert_of, Pick_of, Set_of, Give_of, StateTree, RuleTree, MachineTree, BodyTree, Check_of, Property_of, Machine_of, ItemTree, SuiteTree}
+use Rattle.pt_ast.specs.Trees.{ExprTree, StmtTree, Draw_of, Let_of, Assume_of, Assert_of, Pick_of, Set_of, Give_of, StateTree, RuleTree, MachineTree, BodyTree, Check_of, Property_of, Machine_of, SuiteTree}
 use Rattle.pt_ast.specs.Bounds.{gives}
 use Rattle.pt_ast.specs.Names.{Scope, type_in, IsFree, with_name, AreDistinct}
-use Rattle.pt_ast.specs.Typing.{HasType, Draws}
+use Rattle.pt_ast.specs.Typing.{HasType}
 use Rattle.pt_ast.specs.Suites.{Context, no_context, Binds, BindAll, Declare, bundles_of, IsTypedRule, IsTypedItem}
 use Rattle.pt_typing.specs.Fault.{Fault, Unknown, Twice, UnknownCheck}
 use Rattle.pt_typing.specs.Serving.{Is}
