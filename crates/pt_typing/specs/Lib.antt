@@ -1,0 +1,11 @@
+pub mod Fault
+pub mod Steps
+pub mod Served
+pub mod ExprChecks
+pub mod StratChecks
+pub mod SuiteChecks
+pub mod Serving
+pub mod ExprFaults
+pub mod StratFaults
+pub mod SuiteFaults
+pub mod Laws

@@ -1,0 +1,4 @@
+pub mod Parts
+pub mod ExprRows
+pub mod StratRows
+pub mod SuiteRows
