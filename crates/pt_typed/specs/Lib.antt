@@ -1,0 +1,7 @@
+pub mod Shown
+pub mod Fail
+pub mod Strategy
+pub mod Plans
+pub mod Property
+pub mod Sets
+pub mod Laws
