@@ -4,4 +4,5 @@ pub mod IntsLemmas
 pub mod ListLemmas
 pub mod NoteLemmas
 pub mod PairLemmas
+pub mod ReadingLemmas
 pub mod SampledLemmas

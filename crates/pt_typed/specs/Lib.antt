@@ -1,4 +1,5 @@
 pub mod Shown
+pub mod Reading
 pub mod Fail
 pub mod Strategy
 pub mod Plans

@@ -13,7 +13,7 @@ pub struct Doubling;
 impl Function<i64> for Doubling {
     ghost use Rattle.std.specs.Prelude.{pos, ◌+ℤ◌, ◌&&◌, int_le};
     ghost use Rattle.pt_val.specs.declared.val.Val.TheVariants.{Int};
-    ghost use Rattle.pt_typed.specs.Shown.{number_of};
+    ghost use Rattle.pt_typed.specs.Reading.{number_of};
 
     type Output = i64;
 
@@ -33,7 +33,7 @@ pub struct Even;
 impl Predicate<i64> for Even {
     ghost use Rattle.std.specs.Prelude.{pos, int_rem};
     ghost use Rattle.std.specs.Ordering.{int_eq};
-    ghost use Rattle.pt_typed.specs.Shown.{number_of};
+    ghost use Rattle.pt_typed.specs.Reading.{number_of};
 
     ghost truth = { λ _ value. int_eq (int_rem (number_of value) (pos 2)) (pos 0) };
 
@@ -48,7 +48,7 @@ pub struct UpTo;
 
 impl Next<i64> for UpTo {
     ghost use Rattle.std.specs.Prelude.{pos, ◌&&◌, int_le};
-    ghost use Rattle.pt_typed.specs.Shown.{number_of};
+    ghost use Rattle.pt_typed.specs.Reading.{number_of};
     ghost use Rattle.pt_typed.specs.Plans.{ints_plan};
     ghost use Rattle.pt_typed.specs.Sets.{IsBetween};
     ghost use Rattle.pt_typed.specs.Laws.{ints-lawful};

@@ -18,7 +18,7 @@ impl Judge<(i64, i64)> for Falling {
     ghost use Rattle.std.specs.Prelude.{int_lt, if◌then◌else◌};
     ghost use Rattle.pt_case.specs.declared.ending.Ending.TheVariants.{Pass, Fail};
     ghost use Rattle.pt_case.specs.declared.ending.Origin.TheVariants.{Point};
-    ghost use Rattle.pt_typed.specs.Shown.{number_of, first_of, second_of};
+    ghost use Rattle.pt_typed.specs.Reading.{number_of, first_of, second_of};
 
     ghost verdict = { λ _ pair. if int_lt (number_of (first_of pair)) (number_of (second_of pair)) then Fail (Point 3) else Pass };
 
