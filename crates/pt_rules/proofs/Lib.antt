@@ -1,0 +1,2 @@
+pub mod EnabledLemmas
+pub mod StepLemmas
