@@ -1,0 +1,4 @@
+mod CountLemmas
+mod LeastLemmas
+mod OnceLemmas
+mod AgreeLemmas

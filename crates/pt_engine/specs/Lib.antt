@@ -1,0 +1,4 @@
+pub mod Outcome
+pub mod Finding
+pub mod Agree
+pub mod Progress

@@ -1,0 +1,4 @@
+mod ProgressLemmas
+mod AskedLemmas
+mod BlockLemmas
+mod SweepLemmas
