@@ -1,0 +1,11 @@
+pub mod Outcomes
+pub mod Forms
+pub mod Lists
+pub mod Tested
+pub mod Types
+pub mod Single
+pub mod ExprShapes
+pub mod Chains
+pub mod Atoms
+pub mod Exprs
+pub mod Strats
