@@ -9,3 +9,4 @@ pub mod Chains
 pub mod Atoms
 pub mod Exprs
 pub mod Strats
+pub mod Stmts
