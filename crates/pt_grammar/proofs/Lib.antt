@@ -10,3 +10,6 @@ pub mod Atoms
 pub mod Exprs
 pub mod Strats
 pub mod Stmts
+pub mod Machines
+pub mod Suites
+pub mod SuiteTexts

@@ -83,7 +83,8 @@ abbrev pub Many : {A Given : Type 0} → (Given → Family A) → (Given → A �
 Many P leaves given s list ts = Series (λ g a. P g s a) leaves given list ts
 
 module _ {A Given : Type 0} (C : Type 0) (P : Given → Family A) (begins : Given → Kind → Bool) (leaves : Given → A → Given) (on off : Kind → Bool)
-    (part : Given → List Token → Reading A) (forms : (g : Given) → Form C (P g) on (part g))
+    (part : Given → List Token → Reading A)
+    (meets : C → (g : Given) (t : Token) (rest : List Token) → begins g t.kind ≡ true → AllReal (t ∷ rest) → Outcome (P g) on (t ∷ rest) (part g (t ∷ rest)))
     (head : (s : Sort) (g : Given) (a : A) (t : Token) (ts : List Token) → P g s a (t ∷ ts) → begins g t.kind ≡ true)
     (empty : (s : Sort) (g : Given) (a : A) → P g s a [] → ⊥)
     (begins_on : (g : Given) (k : Kind) → begins g k ≡ true → on k ≡ false)
@@ -93,11 +94,11 @@ module _ {A Given : Type 0} (C : Type 0) (P : Given → Family A) (begins : Give
   many_head s g a others t ts ([], y, p, q, e) = absurd (empty s g a p)
   many_head s g a others t ts (u ∷ us, y, p, q, e) = let same : u ≡ t = cc in subst (λ (c : Token). begins g c.kind ≡ true) same (head s g a u us p)
 
-  pub many_stop : (s : Sort) (g : Given) (list : List A) (ts z : List Token) → Many P leaves g s list ts → Stops off z → Stops on (ts ++ z)
-  many_stop s g [] ts [] h stop = subst (λ w. Stops on (w ++ [])) (sym h) tt
-  many_stop s g [] ts (t ∷ z) h stop = subst (λ w. Stops on (w ++ t ∷ z)) (sym h) (off_on t.kind stop)
-  many_stop s g (a ∷ others) ts z ([], y, p, q, e) stop = absurd (empty s g a p)
-  many_stop s g (a ∷ others) ts z (u ∷ us, y, p, q, e) stop = subst (λ w. Stops on (w ++ z)) (sym e) (begins_on g u.kind (head s g a u us p))
+  many_stops : (s : Sort) (g : Given) (list : List A) (ts z : List Token) → Many P leaves g s list ts → Stops off z → Stops on (ts ++ z)
+  many_stops s g [] ts [] h stop = subst (λ w. Stops on (w ++ [])) (sym h) tt
+  many_stops s g [] ts (t ∷ z) h stop = subst (λ w. Stops on (w ++ t ∷ z)) (sym h) (off_on t.kind stop)
+  many_stops s g (a ∷ others) ts z ([], y, p, q, e) stop = absurd (empty s g a p)
+  many_stops s g (a ∷ others) ts z (u ∷ us, y, p, q, e) stop = subst (λ w. Stops on (w ++ z)) (sym e) (begins_on g u.kind (head s g a u us p))
 
   nothing_more : (g : Given) (tokens : List Token) → goes_on (begins g) tokens ≡ false → Outcome (Many P leaves g) off tokens (Ok ([], tokens))
   nothing_more g [] no_part = record {
@@ -146,9 +147,9 @@ module _ {A Given : Type 0} (C : Type 0) (P : Given → Family A) (begins : Give
     test false e below = nothing_more g (t ∷ rest) e
     test true e below =
         known_first (Some_more g) (Many P leaves g) off t (λ s v x h. to s v x h) (λ s v x h. from s v x h) (λ s v h. none_of s v h) (λ s v h stop. off_begins g t.kind e stop) (some_many g) rest _
-        (seq (P g) (λ a. Made (λ others. a ∷ others) (Many P leaves (leaves g a))) on off (λ s a v ts z k stop. many_stop s (leaves g a) k.0 ts z k.2 stop)
+        (seq (P g) (λ a. Made (λ others. a ∷ others) (Many P leaves (leaves g a))) on off (λ s a v ts z k stop. many_stops s (leaves g a) k.0 ts z k.2 stop)
         (λ a. (a ∷ [], [], λ s. ([], refl, refl), λ h. h))
-        (t ∷ rest) (part g (t ∷ rest)) (λ a after. many_at part begins leaves turns (leaves g a) after >>= λ more. Ok (a ∷ more.0, more.1)) ((forms g).meets c (t ∷ rest) real)
+        (t ∷ rest) (part g (t ∷ rest)) (λ a after. many_at part begins leaves turns (leaves g a) after >>= λ more. Ok (a ∷ more.0, more.1)) (meets c g t rest e real)
         (λ a after h. mapped (Many P leaves (leaves g a)) off (λ others. a ∷ others) after (many_at part begins leaves turns (leaves g a) after)
         (below (leaves g a) after (shorter a h.front after h.parts (h.spelled sort.OutOfRange)) (real_rest (P g) on (t ∷ rest) a after h real)))) where
           to : (s : Sort) (v : List A) (x : List Token) → Some_more g s v (t ∷ x) → Many P leaves g s v (t ∷ x)
@@ -162,8 +163,22 @@ module _ {A Given : Type 0} (C : Type 0) (P : Given → Family A) (begins : Give
           none_of s v (a, ([], z, p, q, e')) = empty s g a p
           none_of s v (a, (u ∷ us, z, p, q, e')) = absurd cc
 
+  -- where the reader of a part serves where one begins
+  pub many_where : (g : Given) → Form C (Many P leaves g) off (all_at part begins leaves g)
+  many_where g = record { some = some_many g; meets = λ c tokens real. many_outcome c (length tokens) g tokens (omega arith) real }
+
+module _ {A Given : Type 0} (C : Type 0) (P : Given → Family A) (begins : Given → Kind → Bool) (leaves : Given → A → Given) (on off : Kind → Bool)
+    (part : Given → List Token → Reading A) (forms : (g : Given) → Form C (P g) on (part g))
+    (head : (s : Sort) (g : Given) (a : A) (t : Token) (ts : List Token) → P g s a (t ∷ ts) → begins g t.kind ≡ true)
+    (empty : (s : Sort) (g : Given) (a : A) → P g s a [] → ⊥)
+    (begins_on : (g : Given) (k : Kind) → begins g k ≡ true → on k ≡ false)
+    (off_on : (k : Kind) → off k ≡ false → on k ≡ false)
+    (off_begins : (g : Given) (k : Kind) → begins g k ≡ true → off k ≡ false → ⊥) where
   pub many_form : (g : Given) → Form C (Many P leaves g) off (all_at part begins leaves g)
-  many_form g = record { some = some_many g; meets = λ c tokens real. many_outcome c (length tokens) g tokens (omega arith) real }
+  many_form g = many_where C P begins leaves on off part (λ c g t rest e real. (forms g).meets c (t ∷ rest) real) head empty begins_on off_on off_begins g
+
+  pub many_stop : (s : Sort) (g : Given) (list : List A) (ts z : List Token) → Many P leaves g s list ts → Stops off z → Stops on (ts ++ z)
+  many_stop s g list ts z h stop = many_stops C P begins leaves on off part (λ c g t rest e real. (forms g).meets c (t ∷ rest) real) head empty begins_on off_on off_begins s g list ts z h stop
 
 -- ---- a form that may be left out
 

@@ -10,3 +10,4 @@ pub mod TypeReading
 pub mod ExprReading
 pub mod StratReading
 pub mod SuiteReading
+pub mod Laws

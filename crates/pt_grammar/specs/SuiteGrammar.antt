@@ -1,5 +1,6 @@
 -- The grammar of statements, items and suites: which tokens spell a tree.
 use Rattle.std.specs.Prelude.{◌≡◌, ℕ, ◌+◌, ◌-◌, length, IsTrue, Bool, true, false, Option, Some, None, List, [], ◌∷◌, ◌++◌}
+use Rattle.pt_val.specs.declared.place.Place.{Place}
 use Rattle.pt_ast.specs.declared.ident.Ident.{Ident}
 use Rattle.pt_ast.specs.declared.suite.Settings.{Settings}
 use Rattle.pt_ast.specs.Trees.{ExprTree, StmtTree, Draw_of, Let_of, Assume_of, Assert_of, Pick_of, Set_of, Give_of, StateTree, BundleTree, InvariantTree, RuleTree, MachineTree, BodyTree, Check_of, Property_of, Machine_of, ItemTree, SuiteTree}
@@ -116,15 +117,16 @@ abbrev pub AreSettings : Sort → Bool → Settings → List Token → Type 0
 AreSettings upto steps settings tokens =
     (list : List Setting) × (settings ≡ settled defaults list) × Series (IsSetting upto) without (record { runs = true; shrink = true; steps = steps }) list tokens
 
--- an item whose nodes are numbered from there on
+-- what an item of this name and these settings tests, where its nodes are numbered from there on
+abbrev pub ItemOf : Sort → ℕ → Place → Ident → Settings → BodyTree → List Token → Type 0
+ItemOf upto from at name settings Check_of tokens = (OneAt (kind.Word word.Check) at ⨾ IsName upto name ⨾ AreSettings upto false settings) tokens
+ItemOf upto from at name settings (Property_of stmts) tokens =
+    (OneAt (kind.Word word.Property) at ⨾ IsName upto name ⨾ AreSettings upto false settings ⨾ Opens upto 64 open_brace ⨾ AreStmts upto 63 false from stmts ⨾ One close_brace) tokens
+ItemOf upto from at name settings (Machine_of machine) tokens =
+    (OneAt (kind.Word word.Machine) at ⨾ IsName upto name ⨾ AreSettings upto true settings ⨾ IsMachine upto 64 from machine) tokens
+
 abbrev pub IsItem : Sort → ℕ → ItemTree → List Token → Type 0
-IsItem upto from item = spelled item.body where
-  spelled : BodyTree → List Token → Type 0
-  spelled Check_of tokens = (OneAt (kind.Word word.Check) item.at ⨾ IsName upto item.name ⨾ AreSettings upto false item.settings) tokens
-  spelled (Property_of stmts) tokens =
-      (OneAt (kind.Word word.Property) item.at ⨾ IsName upto item.name ⨾ AreSettings upto false item.settings ⨾ Opens upto 64 open_brace ⨾ AreStmts upto 63 false from stmts ⨾ One close_brace) tokens
-  spelled (Machine_of machine) tokens =
-      (OneAt (kind.Word word.Machine) item.at ⨾ IsName upto item.name ⨾ AreSettings upto true item.settings ⨾ IsMachine upto 64 from machine) tokens
+IsItem upto from item tokens = ItemOf upto from item.at item.name item.settings item.body tokens
 
 -- items, with the room that is left and the number of the next node
 abbrev pub AreItems : Sort → ℕ → ℕ → List ItemTree → List Token → Type 0

@@ -1,0 +1,29 @@
+-- The laws of the grammar.
+use Rattle.std.specs.Prelude.{◌≡◌, ◌⊎◌, List}
+use Rattle.pt_ast.specs.Trees.{SuiteTree}
+use Rattle.pt_lex.specs.declared.token.Token.{Token}
+use Rattle.pt_grammar.specs.declared.sort.Sort.{Sort}
+use Rattle.pt_grammar.specs.declared.sort.Sort.TheVariants as sort
+use Rattle.pt_grammar.specs.Tokens.{IsText}
+use Rattle.pt_grammar.specs.Faults.{HasFirstFault}
+use Rattle.pt_grammar.specs.SuiteGrammar.{SuiteText}
+
+-- tokens read as a suite, free of all faults
+abbrev pub ReadsAs : List Token → SuiteTree → Type 0
+ReadsAs tokens suite = SuiteText sort.OutOfRange suite tokens
+
+-- a text has one reading at most
+abbrev pub OneReading : Type 0
+OneReading = (tokens : List Token) (suite other : SuiteTree) → IsText tokens → ReadsAs tokens suite → ReadsAs tokens other → other ≡ suite
+
+-- a text has a reading or a first fault
+abbrev pub ReadsOrFaults : Type 0
+ReadsOrFaults = (tokens : List Token) → IsText tokens → ((suite : SuiteTree) × ReadsAs tokens suite) ⊎ ((which : Sort) × (token : Token) × HasFirstFault SuiteText tokens which token)
+
+-- and not both
+abbrev pub NotBoth : Type 0
+NotBoth = (tokens : List Token) (suite : SuiteTree) (which : Sort) (token : Token) → IsText tokens → ReadsAs tokens suite → HasFirstFault SuiteText tokens which token → ⊥
+
+-- a text has one first fault at most
+abbrev pub OneFault : Type 0
+OneFault = (tokens : List Token) (which other : Sort) (token second : Token) → IsText tokens → HasFirstFault SuiteText tokens which token → HasFirstFault SuiteText tokens other second → (token ≡ second) × (which ≡ other)
