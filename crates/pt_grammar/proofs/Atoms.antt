@@ -21,12 +21,12 @@ use Rattle.pt_grammar.specs.Faults.{Family}
 use Rattle.pt_grammar.specs.Reading.{Fault, at, Reading, ◌>>=◌, one_at, token_at, open_at, deeper, name_at, text_seen, bytes_seen, number_seen, is_open, is_close, is_close_square, is_comma, is_dot, is_or, is_and, all_at, less_room}
 use Rattle.pt_grammar.specs.ExprReading.{Readers, alone, joined_at, is_product, is_sum, is_compare, begins_post, round_tree, more_expr_at, more_exprs_at, args_at, call_at, bind_at, round_at, square_at, number_at, text_at, bytes_at, var_at, atom_on, atom_at, index_at, post_on, post_part_at}
 use Rattle.pt_grammar.proofs.Outcomes.{AllReal, never, Some_of, Outcome, Form, Seq}
-use Rattle.pt_grammar.proofs.Forms.{made, unreal, form_same, then_form, Made, made_form, Nothing, returned, behind, syntax_here, ended, Openings, within_form, deeper_outcome, known_first, After, after_form, marked_form, Closed, closed_form, one_then, one_first, then_some, at_head, at_then, at_first, nests_then, nests_first, nests_some}
+use Rattle.pt_grammar.proofs.Forms.{made, unreal, form_same, then_form, fronted, Made, made_form, Nothing, returned, behind, syntax_here, ended, Openings, within_form, deeper_outcome, known_first, After, after_form, marked_form, Closed, closed_form, one_then, one_first, then_some, at_head, at_then, at_first, nests_then, nests_first, nests_some}
 use Rattle.pt_grammar.proofs.Lists.{Roomy, room_form, Many}
 use Rattle.pt_grammar.proofs.Tested.{open_tests, close_tests, open_square_tests, close_square_tests, comma_tests, dot_tests}
 use Rattle.pt_grammar.proofs.Single.{fitting_one, Names, name_form, Texts, text_form, Byte_lists, bytes_form, Numbers, number_form}
 use Rattle.pt_grammar.proofs.ExprShapes.{Level, expr_some, expr_head, head_level, some_expr, Operand, joined_to, joined_from, Part_behind, more_to, more_from, exprs_again, Post_form, made_zero}
-use Rattle.pt_grammar.proofs.Chains.{or_false, not_both, ended_row}
+use Rattle.pt_grammar.proofs.Chains.{or_false, not_both, ended_row, ended_row_by}
 
 -- with which tokens a level goes on
 
@@ -150,8 +150,9 @@ module _ (left : ℕ) (inside : Readers) (exprs : Form (0 < left) (Level (left -
   unfolding call_at
   call_form place func =
       within_form (Unit {0}) is_open opening open_tests refl left _ never _
-      (ended_row {Given = Unit {0}} (0 < left) (Level (left - 1) 0) (λ u. Operand (left - 1) 0 comma) is_comma alone on_or on_row inside.expr (λ u. joined_at is_comma inside.expr) exprs (λ u. arg_form)
-      (λ s u a t ts h. arg_head s a t ts h) (λ s u a h. then_some comma _ h) comma_on row_or row_comma is_close close close_tests refl refl (λ a. tt) (λ first others. Call_of place func (exprs_of (first ∷ others))) never)
+      (ended_row_by {Given = Unit {0}} (0 < left) (Level (left - 1) 0) (λ u. Operand (left - 1) 0 comma) is_comma alone on_or on_row inside.expr (λ u. joined_at is_comma inside.expr) exprs (λ u. arg_form)
+      (λ s u a t ts h. arg_head s a t ts h) (λ s u a h. then_some comma _ h) comma_on row_or row_comma is_close close close_tests refl refl (λ a. tt) (λ first others. Call_of place func (exprs_of (first ∷ others))) never
+      _ (λ first tokens. fronted (first ∷ []) is_close (λ all. Call_of place func (exprs_of all)) (args_at inside.expr tokens)))
 
   -- binders
 
@@ -190,8 +191,9 @@ module _ (left : ℕ) (inside : Readers) (exprs : Form (0 < left) (Level (left -
   square_form : (place : Place) → Form (0 < left) (Square_form place) never (square_at inside place)
   unfolding square_at
   square_form place =
-      ended_row (0 < left) (Level (left - 1) 0) (Part_behind (left - 1)) is_comma less_room on_or on_row inside.expr (more_expr_at inside.expr) exprs part_form
+      ended_row_by (0 < left) (Level (left - 1) 0) (Part_behind (left - 1)) is_comma less_room on_or on_row inside.expr (more_expr_at inside.expr) exprs part_form
       part_head (λ s room a h. then_some comma _ h) comma_on row_or row_comma is_close_square close_square close_square_tests refl refl (λ a. 63) (λ first others. List_of place (exprs_of (first ∷ others))) never
+      _ (λ first tokens. fronted (first ∷ []) is_close_square (λ all. List_of place (exprs_of all)) (more_exprs_at inside.expr 63 tokens))
 
   -- ---- a first token of each kind
 

@@ -14,7 +14,7 @@ use Rattle.pt_grammar.specs.Faults.{Family, IsBefore}
 use Rattle.pt_grammar.specs.Reading.{Fault, at, Reading, ◌>>=◌, one_at, place_at, token_at, all_at}
 use Rattle.pt_grammar.specs.ExprReading.{alone, chain_at, operator_found, operator_at}
 use Rattle.pt_grammar.proofs.Outcomes.{AllReal, Stops, Some_of, Found, Outcome, Form, Seq, seq, seq_form, real_rest}
-use Rattle.pt_grammar.proofs.Forms.{made, unreal, none_before, Tests, Made, made_form, none_read, known_first, Closed, closed_form, Token_law, token_form}
+use Rattle.pt_grammar.proofs.Forms.{made, unreal, none_before, Tests, form_read, Made, made_form, none_read, known_first, Closed, closed_form, Token_law, token_form}
 use Rattle.pt_grammar.proofs.Lists.{Many, many_form, many_stop}
 use Rattle.pt_grammar.proofs.ExprShapes.{Level, expr_some, looser, some_expr}
 
@@ -120,6 +120,14 @@ module _ {A X V Given : Type 0} (C : Type 0) (P : Family A) (T : Given → Famil
       subst (λ w. Stops on (w ++ z)) (sym e) (subst (λ w. Stops on w) (sym (append_assoc x y z))
       (many_stop C T (λ g. begins) leaves on off part parts head empty (λ g k' e'. begins_on k' e') off_on (λ g k' e' no. off_begins k' e' no) s (given a) list x (y ++ z) many
       (subst (λ w. Stops off (w ++ z)) (sym only) (ap off k ∙ stop))))
+
+  -- the same, where the end is read in other words
+  pub ended_row_by : (q : A → List Token → Reading V) → ((a : A) (tokens : List Token) → (all_at part (λ g. begins) leaves (given a) tokens >>= λ others. one_at is others.1 >>= λ behind. Ok (h a others.0, behind.1)) ≡ q a tokens)
+      → Form C (Seq P (λ a. Closed which (h a) (Many T leaves (given a)))) last (λ tokens. read tokens >>= λ first. q first.0 first.1)
+  ended_row_by q same =
+      seq_form P (λ a. Closed which (h a) (Many T leaves (given a))) on last (λ s a v ts z k no. ended_stop s a v ts z k) (λ a. (closing a).some) C read q form closing where
+        closing : (a : A) → Form C (Closed which (h a) (Many T leaves (given a))) last (q a)
+        closing a = form_read C (Closed which (h a) (Many T leaves (given a))) last _ (q a) (same a) (closed_form C is which tests inside (Many T leaves (given a)) off last (h a) (all_at part (λ g. begins) leaves (given a)) stop (row_form (given a)))
 
   pub ended_row : Form C (Seq P (λ a. Closed which (h a) (Many T leaves (given a)))) last
       (λ tokens. read tokens >>= λ first. all_at part (λ g. begins) leaves (given first.0) first.1 >>= λ others. one_at is others.1 >>= λ behind. Ok (h first.0 others.0, behind.1))

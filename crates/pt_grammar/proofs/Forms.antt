@@ -12,7 +12,7 @@ use Rattle.pt_lex.specs.Lexing.{is_last}
 use Rattle.pt_grammar.specs.Tokens.{IsReal}
 use Rattle.pt_grammar.specs.Forms.{◌⨾◌, One, OneAt, Opens, NestsAt, MindsNesting}
 use Rattle.pt_grammar.specs.Faults.{Family, Begins, IsBefore}
-use Rattle.pt_grammar.specs.Reading.{Fault, at, Reading, ◌>>=◌, taken, token_at, seen, one_at, opened, open_at, deeper}
+use Rattle.pt_grammar.specs.Reading.{Fault, at, Reading, ◌>>=◌, taken, token_at, seen, one_at, opened, open_at, with_front, deeper}
 use Rattle.pt_grammar.proofs.Outcomes.{AllReal, NoEnd, no_end_join, Stops, never, stops_never, Some_of, Found, Failed, Outcome, Form, real_rest, Seq, seq, seq_form}
 
 -- a token with which a text that was cut off is ended
@@ -59,6 +59,18 @@ form_same C P R on r to from f = record {
   some = (f.some.0, f.some.1, λ s. to s f.some.0 f.some.1 (f.some.2 s), f.some.3);
   meets = λ c tokens real. outcome_same P R on tokens (r tokens) to from (f.meets c tokens real);
 }
+
+-- the same reader in other words
+pub form_read : {A : Type 0} (C : Type 0) (P : Family A) (on : Kind → Bool) (r q : List Token → Reading A) → ((tokens : List Token) → r tokens ≡ q tokens) → Form C P on r → Form C P on q
+form_read C P on r q same f = record { some = f.some; meets = λ c tokens real. subst (Outcome P on tokens) (same tokens) (f.meets c tokens real) }
+
+-- a row to the token that closes it, kept with what stands before it
+abbrev pub closed_at : {X V : Type 0} → (Kind → Bool) → (List X → V) → Reading (List X) → Reading V
+closed_at is h r = r >>= λ x. one_at is x.1 >>= λ y. Ok (h x.0, y.1)
+
+pub fronted : {X V : Type 0} (front : List X) (is : Kind → Bool) (h : List X → V) (r : Reading (List X)) → closed_at is (λ x. h (front ++ x)) r ≡ closed_at is h (with_front front r)
+fronted front is h (Ok x) = refl
+fronted front is h (Err fault) = refl
 
 -- a tree that is made of what was read
 abbrev pub Made : {A V : Type 0} → (A → V) → Family A → Family V

@@ -17,7 +17,7 @@ use Rattle.pt_grammar.specs.ExprGrammar.{IsExpr}
 use Rattle.pt_grammar.specs.StratGrammar.{IsStrat}
 use Rattle.pt_grammar.specs.SuiteGrammar.{IsStmt, IsGive, AreRuleStmts}
 use Rattle.pt_grammar.specs.Faults.{Family}
-use Rattle.pt_grammar.specs.Reading.{Fault, at, Reading, ◌>>=◌, one_at, name_at, is_semicolon, is_assign, is_from, all_at, maybe_at}
+use Rattle.pt_grammar.specs.Reading.{Fault, at, Reading, ◌>>=◌, taken, one_at, name_at, is_semicolon, is_assign, is_from, all_at, maybe_at}
 use Rattle.pt_grammar.specs.ExprReading.{expr_at}
 use Rattle.pt_grammar.specs.StratReading.{strat_at}
 use Rattle.pt_grammar.specs.SuiteReading.{assigned_at, ended_at, draw_at, pick_at, stmt_on, stmt_at, begins_stmt, next_stmt, stmts_at, worded, is_give, give_at, rule_stmts_at}
@@ -47,7 +47,7 @@ module _ {V : Type 0} (R : Family V) (Q : Place → Family V) (on : Kind → Boo
     cases : (tokens : List Token) → AllReal tokens → Outcome R on tokens (worded is read tokens)
     cases [] real = ended R on some_worded
     cases (t ∷ rest) real = test (is t.kind) refl where
-      test : (b : Bool) → is t.kind ≡ b → Outcome R on (t ∷ rest) (cond {A = Reading V} b (read t.at rest) (Err (at sort.Syntax (t ∷ rest))))
+      test : (b : Bool) → is t.kind ≡ b → Outcome R on (t ∷ rest) (taken (cond {A = Result Place Sort} b (Ok t.at) (Err sort.Syntax)) (t ∷ rest) rest >>= λ x. read x.0 x.1)
       test true e = let same = tests.only t.kind e in behind (Q t.at) R on t (ap is_last same ∙ inside) (out t same) (put t same) empty rest (read t.at rest) ((f t.at).meets tt rest real.1)
       test false e = syntax_here R on t rest some_worded empty (λ s v x h. not_both (is t.kind) (ap is (head s v t x h) ∙ tests.passes) e)
 

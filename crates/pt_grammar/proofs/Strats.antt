@@ -21,12 +21,12 @@ use Rattle.pt_grammar.specs.Reading.{Fault, at, Reading, ◌>>=◌, one_at, open
 use Rattle.pt_grammar.specs.ExprReading.{inner}
 use Rattle.pt_grammar.specs.StratReading.{alphabet_seen, alphabet_at, next_node, more_strat_at, more_strats_at, bounds_at, texts_at, lists_at, tuples_at, one_of_at, flat_map_at, recursive_at, applied_at, bounded_at, bools_at, sampled_at, strat_on, strat_step, strat_below, strat_at}
 use Rattle.pt_grammar.proofs.Outcomes.{AllReal, never, Some_of, Outcome, Form, Seq}
-use Rattle.pt_grammar.proofs.Forms.{made, unreal, none_before, then_form, Made, made_form, Nothing, returned, behind, syntax_here, ended, Token_law, token_form, Openings, within_form, After, after_form, marked_form, Closed, closed_form, Ones, one_form, one_then, then_some, at_head, at_then, at_first, at_some, lowered}
+use Rattle.pt_grammar.proofs.Forms.{made, unreal, none_before, then_form, fronted, Made, made_form, Nothing, returned, behind, syntax_here, ended, Token_law, token_form, Openings, within_form, After, after_form, marked_form, Closed, closed_form, Ones, one_form, one_then, then_some, at_head, at_then, at_first, at_some, lowered}
 use Rattle.pt_grammar.proofs.Lists.{Roomy, room_form, last_sort, early_sort, Many, many_form}
 use Rattle.pt_grammar.proofs.Tested.{open_tests, close_tests, comma_tests}
 use Rattle.pt_grammar.proofs.Single.{Names, name_form, Limits, limited_form}
 use Rattle.pt_grammar.proofs.ExprShapes.{Level}
-use Rattle.pt_grammar.proofs.Chains.{not_both, ended_row}
+use Rattle.pt_grammar.proofs.Chains.{not_both, ended_row_by}
 use Rattle.pt_grammar.proofs.Atoms.{on_or}
 use Rattle.pt_grammar.proofs.Exprs.{inner_forms}
 
@@ -261,9 +261,10 @@ module _ (left : ℕ) (item : ℕ → List Token → Reading StratTree) (expr : 
     unfolding tuples_at
     tuples_form = within_form (Unit {0}) is_open opening open_tests refl left (Seq (Strats (left - 1) (from + 1)) (λ first. After comma (Second first))) never _
         (marked_form (0 < left) is_comma comma comma_tests refl (Strats (left - 1) (from + 1)) Second never never (item (from + 1)) _ refl (items (from + 1))
-        (λ first. ended_row (0 < left) (Strats (left - 1) (from + 1 + nodes first)) (Behind (left - 1)) is_comma next_node never is_comma (item (from + 1 + nodes first)) (more_strat_at item) (items (from + 1 + nodes first)) more_form
+        (λ first. ended_row_by (0 < left) (Strats (left - 1) (from + 1 + nodes first)) (Behind (left - 1)) is_comma next_node never is_comma (item (from + 1 + nodes first)) (more_strat_at item) (items (from + 1 + nodes first)) more_form
         behind_head (λ s given a h. then_some comma _ h) (λ k e. refl) (λ k e. refl) (λ k e stop. not_both (is_comma k) e stop) is_close close close_tests refl refl (λ second. (6, from + 1 + nodes first + nodes second))
-        (λ second others. Tuples_of place from (strats_of (first ∷ second ∷ others))) never))
+        (λ second others. Tuples_of place from (strats_of (first ∷ second ∷ others))) never
+        _ (λ second tokens. fronted (first ∷ second ∷ []) is_close (λ all. Tuples_of place from (strats_of all)) (more_strats_at item 6 (from + 1 + nodes first + nodes second) tokens))))
 
     abbrev One_form : Family StratTree
     One_form = Seq (Openings left opening) (λ u. Seq (Strats (left - 1) (from + 1)) (λ first. Closed close (λ others. OneOf_of place from (strats_of (first ∷ others))) (Many (Behind (left - 1)) next_node (15, from + 1 + nodes first))))
@@ -271,9 +272,10 @@ module _ (left : ℕ) (item : ℕ → List Token → Reading StratTree) (expr : 
     one_of_form : Form (Unit {0}) One_form never (one_of_at left item expr place from)
     unfolding one_of_at
     one_of_form = within_form (Unit {0}) is_open opening open_tests refl left _ never _
-        (ended_row (0 < left) (Strats (left - 1) (from + 1)) (Behind (left - 1)) is_comma next_node never is_comma (item (from + 1)) (more_strat_at item) (items (from + 1)) more_form
+        (ended_row_by (0 < left) (Strats (left - 1) (from + 1)) (Behind (left - 1)) is_comma next_node never is_comma (item (from + 1)) (more_strat_at item) (items (from + 1)) more_form
         behind_head (λ s given a h. then_some comma _ h) (λ k e. refl) (λ k e. refl) (λ k e stop. not_both (is_comma k) e stop) is_close close close_tests refl refl (λ first. (15, from + 1 + nodes first))
-        (λ first others. OneOf_of place from (strats_of (first ∷ others))) never)
+        (λ first others. OneOf_of place from (strats_of (first ∷ others))) never
+        _ (λ first tokens. fronted (first ∷ []) is_close (λ all. OneOf_of place from (strats_of all)) (more_strats_at item 15 (from + 1 + nodes first) tokens)))
 
     abbrev Applied : (Ident → StratTree → ExprTree → StratTree) → Family StratTree
     Applied tree = Seq (Openings left opening) (λ u. Seq Names (λ given. After comma (Seq (Strats (left - 1) (from + 1)) (λ first. After comma (Closed close (tree given first) (Level (left - 1) 0))))))

@@ -13,9 +13,9 @@ use Rattle.pt_grammar.specs.Forms.{◌⨾◌, One, Opens, Part}
 use Rattle.pt_grammar.specs.TypeGrammar.{IsType, MoreTypes}
 use Rattle.pt_grammar.specs.Faults.{Family}
 use Rattle.pt_grammar.specs.Reading.{Fault, at, Reading, ◌>>=◌, one_at, open_at, is_open, is_close, is_comma, all_at, less_room}
-use Rattle.pt_grammar.specs.TypeReading.{more_type_at, more_types_at, type_on, type_step, type_below, type_at}
+use Rattle.pt_grammar.specs.TypeReading.{more_type_at, more_types_at, list_type_at, tuple_type_at, type_on, type_step, type_below, type_at}
 use Rattle.pt_grammar.proofs.Outcomes.{AllReal, never, Some_of, Outcome, Form, Seq}
-use Rattle.pt_grammar.proofs.Forms.{made, unreal, then_form, Made, made_form, Nothing, returned, behind, syntax_here, ended, Openings, within_form, After, after_form, marked_form, Closed, closed_form, one_head, one_some, one_then, one_first, then_some, lowered}
+use Rattle.pt_grammar.proofs.Forms.{made, unreal, then_form, form_read, fronted, Made, made_form, Nothing, returned, behind, syntax_here, ended, Openings, within_form, After, after_form, marked_form, Closed, closed_form, one_head, one_some, one_then, one_first, then_some, lowered}
 use Rattle.pt_grammar.proofs.Lists.{Roomy, room_form, Many, many_form}
 use Rattle.pt_grammar.proofs.Tested.{open_tests, close_tests, comma_tests}
 
@@ -75,7 +75,8 @@ module _ (left : ℕ) (item : List Token → Reading TypeTree) (item_form : Form
   abbrev List_form : Family TypeTree
   List_form = Seq (Openings left opening) (λ u. Closed close List_type (Types (left - 1)))
 
-  list_form : Form (Unit {0}) List_form never (λ tokens. open_at is_open left tokens >>= λ inside. item inside.1 >>= λ one. one_at is_close one.1 >>= λ last. Ok (List_type one.0, last.1))
+  list_form : Form (Unit {0}) List_form never (list_type_at left item)
+  unfolding list_type_at
   list_form =
       within_form (Unit {0}) is_open opening open_tests refl left (Closed close List_type (Types (left - 1))) never (λ tokens. item tokens >>= λ one. one_at is_close one.1 >>= λ last. Ok (List_type one.0, last.1))
       (closed_form (0 < left) is_close close close_tests refl (Types (left - 1)) never never List_type item refl item_form)
@@ -92,13 +93,14 @@ module _ (left : ℕ) (item : List Token → Reading TypeTree) (item_form : Form
   abbrev Tuple_form : Family TypeTree
   Tuple_form = Seq (Openings left opening) (λ u. Seq (Types (left - 1)) (λ first. After comma (Seq (Types (left - 1)) (Rest_of first))))
 
-  tuple_form : Form (Unit {0}) Tuple_form never (λ tokens. open_at is_open left tokens >>= λ inside. item inside.1 >>= λ first. one_at is_comma first.1 >>= λ mark. item mark.1 >>= λ second.
-      more_types_at item 6 second.1 >>= λ others. one_at is_close others.1 >>= λ last. Ok (Tuple_type (types_of (first.0 ∷ second.0 ∷ others.0)), last.1))
+  tuple_form : Form (Unit {0}) Tuple_form never (tuple_type_at left item)
+  unfolding tuple_type_at
   tuple_form =
       within_form (Unit {0}) is_open opening open_tests refl left (Seq (Types (left - 1)) (λ first. After comma (Seq (Types (left - 1)) (Rest_of first)))) never _
       (marked_form (0 < left) is_comma comma comma_tests refl (Types (left - 1)) (λ first. Seq (Types (left - 1)) (Rest_of first)) never never item _ refl item_form
       (λ first. then_form (0 < left) (Types (left - 1)) (Rest_of first) never item _ item_form
-      (λ second. closed_form (0 < left) is_close close close_tests refl (Many (Behind (left - 1)) less_room 6) is_comma never (λ others. Tuple_type (types_of (first ∷ second ∷ others))) (more_types_at item 6) refl (more_form 6))))
+      (λ second. form_read (0 < left) (Rest_of first second) never _ _ (λ tokens. fronted (first ∷ second ∷ []) is_close (λ all. Tuple_type (types_of all)) (more_types_at item 6 tokens))
+      (closed_form (0 < left) is_close close close_tests refl (Many (Behind (left - 1)) less_room 6) is_comma never (λ others. Tuple_type (types_of (first ∷ second ∷ others))) (more_types_at item 6) refl (more_form 6)))))
 
   -- a first token of each kind
   module _ (t : Token) (rest : List Token) (real : AllReal (t ∷ rest)) where

@@ -14,7 +14,7 @@ use Rattle.pt_lex.specs.declared.token.Word.TheVariants as word
 use Rattle.pt_grammar.specs.declared.sort.Sort.{Sort}
 use Rattle.pt_grammar.specs.declared.sort.Sort.TheVariants as sort
 use Rattle.pt_grammar.specs.Tokens.{compare_of, sum_of, product_of}
-use Rattle.pt_grammar.specs.Reading.{Fault, at, Reading, ◌>>=◌, place_at, token_at, one_at, open_at, deeper, name_at, text_seen, bytes_seen, number_seen, magnitude_seen, is_open, is_close, is_close_square, is_comma, is_then, is_else, is_or, is_and, all_at, maybe_at, room_at, less_room}
+use Rattle.pt_grammar.specs.Reading.{Fault, at, Reading, ◌>>=◌, place_at, token_at, one_at, open_at, deeper, name_at, text_seen, bytes_seen, number_seen, magnitude_seen, is_open, is_close, is_close_square, is_comma, is_then, is_else, is_or, is_and, all_at, with_front, maybe_at, room_at, less_room}
 
 -- how expressions, operands of `and` and operands of minus signs are read one level deeper
 pub record Readers : Type 0 where
@@ -36,10 +36,13 @@ operator_at operator = token_at (λ place which. operator_found place (operator 
 abbrev pub alone : {A : Type 0} → Unit {0} → A → Unit {0}
 alone given part = tt
 
+abbrev pub row_at : {X : Type 0} → (List Token → Reading X) → (Kind → Bool) → List Token → Reading (List X)
+row_at part begins tokens = all_at (λ given. part) (λ given. begins) alone tt tokens
+
 abbrev pub chain_at : {X : Type 0} → (List Token → Reading ExprTree) → (List Token → Reading X) → (Kind → Bool) → (Place → ExprTree → List X → ExprTree) → List Token → Reading ExprTree
 chain_at operand part begins tree tokens = do
   first ← operand tokens
-  others ← all_at (λ given. part) (λ given. begins) alone tt first.1
+  others ← row_at part begins first.1
   Ok (tree (place_at tokens) first.0 others.0, others.1)
 
 abbrev pub joined_at : (Kind → Bool) → (List Token → Reading ExprTree) → List Token → Reading ExprTree
@@ -88,15 +91,15 @@ abbrev pub more_exprs_at : (List Token → Reading ExprTree) → ℕ → List To
 more_exprs_at expr room tokens = all_at (more_expr_at expr) (λ room. is_comma) less_room room tokens
 
 abbrev pub args_at : (List Token → Reading ExprTree) → List Token → Reading (List ExprTree)
-args_at expr tokens = all_at (λ given. joined_at is_comma expr) (λ given. is_comma) alone tt tokens
+args_at expr tokens = row_at (joined_at is_comma expr) is_comma tokens
 
 unfoldable pub call_at : ℕ → Readers → Place → Func → List Token → Reading ExprTree
 call_at left inside place func tokens = do
   opened ← open_at is_open left tokens
   first ← inside.expr opened.1
-  others ← args_at inside.expr first.1
-  behind ← one_at is_close others.1
-  Ok (Call_of place func (exprs_of (first.0 ∷ others.0)), behind.1)
+  all ← with_front (first.0 ∷ []) (args_at inside.expr first.1)
+  behind ← one_at is_close all.1
+  Ok (Call_of place func (exprs_of all.0), behind.1)
 
 unfoldable pub bind_at : ℕ → Readers → Place → Binder → List Token → Reading ExprTree
 bind_at left inside place binder tokens = do
@@ -119,9 +122,9 @@ round_at inside place tokens = do
 unfoldable pub square_at : Readers → Place → List Token → Reading ExprTree
 square_at inside place tokens = do
   first ← inside.expr tokens
-  others ← more_exprs_at inside.expr 63 first.1
-  behind ← one_at is_close_square others.1
-  Ok (List_of place (exprs_of (first.0 ∷ others.0)), behind.1)
+  all ← with_front (first.0 ∷ []) (more_exprs_at inside.expr 63 first.1)
+  behind ← one_at is_close_square all.1
+  Ok (List_of place (exprs_of all.0), behind.1)
 
 -- what is one token
 

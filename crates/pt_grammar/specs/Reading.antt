@@ -47,6 +47,13 @@ seen is place which = if is which then Ok tt else Err sort.Syntax
 abbrev pub one_at : (Kind → Bool) → List Token → Reading (Unit {0})
 one_at is = token_at (seen is)
 
+-- a word, and where it stands
+abbrev pub word_seen : (Kind → Bool) → Place → Kind → Result Place Sort
+word_seen is place which = if is which then Ok place else Err sort.Syntax
+
+abbrev pub word_at : (Kind → Bool) → List Token → Reading Place
+word_at is = token_at (word_seen is)
+
 -- an opening bracket, where this many levels are left
 abbrev pub opened : (Kind → Bool) → ℕ → Place → Kind → Result (Unit {0}) Sort
 opened is left place which = if is which then (if left == 0 then Err sort.TooDeep else Ok tt) else Err sort.Syntax

@@ -11,7 +11,7 @@ use Rattle.pt_lex.specs.declared.token.Word.TheVariants as word
 use Rattle.pt_grammar.specs.declared.sort.Sort.{Sort}
 use Rattle.pt_grammar.specs.declared.sort.Sort.TheVariants as sort
 use Rattle.pt_grammar.specs.StratGrammar.{nodes}
-use Rattle.pt_grammar.specs.Reading.{Fault, at, Reading, ◌>>=◌, token_at, one_at, open_at, name_at, limited_at, is_open, is_close, is_comma, all_at, room_at}
+use Rattle.pt_grammar.specs.Reading.{Fault, at, Reading, ◌>>=◌, token_at, one_at, open_at, name_at, limited_at, is_open, is_close, is_comma, all_at, with_front, room_at}
 use Rattle.pt_grammar.specs.ExprReading.{inner}
 
 abbrev pub alphabet_seen : Place → Kind → Result Alphabet Sort
@@ -65,17 +65,17 @@ module _ (left : ℕ) (item : ℕ → List Token → Reading StratTree) (expr : 
     first ← item (from + 1) opened.1
     comma ← one_at is_comma first.1
     second ← item (from + 1 + nodes first.0) comma.1
-    others ← more_strats_at item 6 (from + 1 + nodes first.0 + nodes second.0) second.1
-    behind ← one_at is_close others.1
-    Ok (Tuples_of place from (strats_of (first.0 ∷ second.0 ∷ others.0)), behind.1)
+    all ← with_front (first.0 ∷ second.0 ∷ []) (more_strats_at item 6 (from + 1 + nodes first.0 + nodes second.0) second.1)
+    behind ← one_at is_close all.1
+    Ok (Tuples_of place from (strats_of all.0), behind.1)
 
   unfoldable pub one_of_at : List Token → Reading StratTree
   one_of_at tokens = do
     opened ← open_at is_open left tokens
     first ← item (from + 1) opened.1
-    others ← more_strats_at item 15 (from + 1 + nodes first.0) first.1
-    behind ← one_at is_close others.1
-    Ok (OneOf_of place from (strats_of (first.0 ∷ others.0)), behind.1)
+    all ← with_front (first.0 ∷ []) (more_strats_at item 15 (from + 1 + nodes first.0) first.1)
+    behind ← one_at is_close all.1
+    Ok (OneOf_of place from (strats_of all.0), behind.1)
 
   unfoldable pub flat_map_at : List Token → Reading StratTree
   flat_map_at tokens = do

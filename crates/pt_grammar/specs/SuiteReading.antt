@@ -12,7 +12,7 @@ use Rattle.pt_lex.specs.declared.token.Kind.TheVariants as kind
 use Rattle.pt_lex.specs.declared.token.Word.TheVariants as word
 use Rattle.pt_grammar.specs.declared.sort.Sort.TheVariants as sort
 use Rattle.pt_grammar.specs.SuiteGrammar.{Setting, Runs_of, Shrink_of, Steps_of, Allowed, without, settled, defaults}
-use Rattle.pt_grammar.specs.Reading.{Fault, at, Reading, ◌>>=◌, one_at, open_at, name_at, limited_at, is_open_brace, is_close_brace, is_semicolon, is_colon, is_assign, is_from, all_at, maybe_at, room_at, less_room}
+use Rattle.pt_grammar.specs.Reading.{Fault, at, Reading, ◌>>=◌, one_at, word_at, open_at, name_at, limited_at, is_open_brace, is_close_brace, is_semicolon, is_colon, is_assign, is_from, all_at, maybe_at, room_at, less_room}
 use Rattle.pt_grammar.specs.TypeReading.{type_at}
 use Rattle.pt_grammar.specs.ExprReading.{expr_at}
 use Rattle.pt_grammar.specs.StratReading.{strat_at}
@@ -80,8 +80,7 @@ stmts_at left in_rule from tokens = all_at (stmt_at left in_rule) (λ from. begi
 -- an item or a part of a machine, whose word begins it
 
 abbrev pub worded : {A : Type 0} → (Kind → Bool) → (Place → List Token → Reading A) → List Token → Reading A
-worded is read [] = Err (at sort.Syntax [])
-worded is read (token ∷ rest) = if is token.kind then read token.at rest else Err (at sort.Syntax (token ∷ rest))
+worded is read tokens = word_at is tokens >>= λ x. read x.0 x.1
 
 abbrev pub is_give : Kind → Bool
 is_give (kind.Word word.Give) = true

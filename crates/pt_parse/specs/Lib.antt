@@ -1,0 +1,5 @@
+pub mod Gives
+pub mod Signs
+pub mod Numbered
+pub mod Settled
+pub mod Answers
