@@ -2,7 +2,7 @@
 --
 -- A text is cut into gaps and tokens, each token the longest that stands there. This says which cuts are right, and
 -- nothing of how they are found.
-use Rattle.std.specs.Prelude.{◌≡◌, ◌⊎◌, ℕ, ◌+◌, ◌<◌, ◌≤◌, Bool, true, false, List, [], ◌∷◌, ◌++◌, length, take}
+use Rattle.std.specs.Prelude.{◌≡◌, ◌⊎◌, ℕ, Bool, true, false, List, [], ◌∷◌, ◌++◌, take}
 use Rattle.std.specs.Str.{all_scalars, encode_utf8_all, IsValidUpTo}
 use Rattle.pt_val.specs.declared.place.Place.{Place}
 use Rattle.pt_lex.specs.declared.token.Token.{Token}

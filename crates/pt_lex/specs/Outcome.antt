@@ -21,7 +21,8 @@ Refused text = (which : Kind) (lexeme rest : List ℕ) → Spelled which lexeme 
 
 -- the end, a token, or none
 abbrev pub Outcome : List ℕ → Kind → List ℕ → Type 0
-Outcome text which rest = ((text ≡ []) × (which ≡ kind.End)) ⊎ Takes which text rest ⊎ ((which ≡ kind.Malformed) × Refused text)
+Outcome [] which rest = which ≡ kind.End
+Outcome (first ∷ others) which rest = Takes which (first ∷ others) rest ⊎ ((which ≡ kind.Malformed) × Refused (first ∷ others))
 
 -- a letter stands there
 abbrev pub StartsLetter : List ℕ → Type 0

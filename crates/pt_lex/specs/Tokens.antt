@@ -1,5 +1,5 @@
 -- One token, and what may follow it.
-use Rattle.std.specs.Prelude.{◌≡◌, ℕ, ◌<◌, ◌≤◌, Bool, true, false, List, [], ◌∷◌, ◌++◌, length, min}
+use Rattle.std.specs.Prelude.{◌≡◌, ℕ, ◌<◌, ◌≤◌, true, false, List, [], ◌∷◌, ◌++◌, length, min}
 use Rattle.pt_val.specs.Name.{is_digit}
 use Rattle.pt_lex.specs.declared.token.Kind.{Kind}
 use Rattle.pt_lex.specs.declared.token.Kind.TheVariants as kind

@@ -19,7 +19,7 @@ pub(crate) fn read_bytes<'a>(
     inside: &'a [char],
 ) -> Result<(Kind, &'a [char]), NoMemory>
     requires { text.now ≡ 120 ∷ 34 ∷ inside.now }
-    ensures outcome { IfOk result (λ x. Outcome text.now x.0 x.1.now) }
+    ensures { IfOk result (λ x. Outcome text.now x.0 x.1.now) }
 {
     match read_pairs(alloc, inside)? {
         Some((bytes, rest)) => Ok((bytes_kind(bytes), rest)),
@@ -39,7 +39,7 @@ fn bytes_kind(bytes: Octets) -> Kind
 
 /// The bytes up to a quote, and what stands behind it.
 fn read_pairs(alloc: Global, text: &[char]) -> Result<Option<(Octets, &[char])>, NoMemory>
-    ensures found { IfOk result (λ found. MatchOption found ((bytes rest : List ℕ) → Closes PrintedByte bytes text.now rest → ⊥)
+    ensures { IfOk result (λ found. MatchOption found ((bytes rest : List ℕ) → Closes PrintedByte bytes text.now rest → ⊥)
         (λ x. Closes PrintedByte x.0 text.now x.1.now)) }
 {
     let mut bytes = Octets::empty(alloc);
@@ -59,7 +59,7 @@ fn read_pairs(alloc: Global, text: &[char]) -> Result<Option<(Octets, &[char])>,
 
 /// The byte that two digits at the front stand for, and what follows them.
 fn read_pair(text: &[char]) -> Option<(u8, &[char])>
-    ensures found { MatchOption result ((byte : ℕ) (rest : List ℕ) → Splits PrintedByte byte text.now rest → ⊥) (λ x. Splits PrintedByte x.0 text.now x.1.now) }
+    ensures { MatchOption result ((byte : ℕ) (rest : List ℕ) → Splits PrintedByte byte text.now rest → ⊥) (λ x. Splits PrintedByte x.0 text.now x.1.now) }
 {
     let (first, others) = text.split_first()?;
     let (second, rest) = others.split_first()?;

@@ -1,5 +1,7 @@
-ghost use Rattle.std.specs.Prelude.{◌≡◌, ◌<◌, ◌^◌, length, IfOk};
+ghost use Rattle.std.specs.Prelude.{◌≡◌, ◌<◌, ◌^◌, ℕ, List, length, IfOk};
+ghost use Rattle.std.specs.Str.{IsUtf8};
 ghost use Rattle.pt_lex.specs.Lexing.{Encoded, NotUtf8At};
+ghost use Rattle.pt_lex.specs.Places.{place_behind};
 ghost use Rattle.pt_val.specs.declared.place.Place.{Place};
 
 use crate::places::place_past;
@@ -37,10 +39,26 @@ pub(crate) fn characters(alloc: Global, bytes: &[u8]) -> Result<Chars, LexStop>
     match str::from_utf8(bytes) {
         Ok(text) => Ok(decode(alloc, text)?),
         Err(error) => {
-            let valid = str::from_utf8(&bytes[..error.valid_up_to()]).unwrap_or("");
-            let text = decode(alloc, valid)?;
-            Err(LexStop::NotUtf8(place_past(Place { line: 1, column: 1 }, text.as_slice())))
+            let valid = &bytes[..error.valid_up_to()];
+            Err(LexStop::NotUtf8(place_behind(alloc, valid)?))
         }
+    }
+}
+
+/// The place behind these bytes, which are UTF-8.
+#[tactic(auto, using(crate::proofs::Encodings::fewer_chars))]
+fn place_behind(alloc: Global, valid: &[u8]) -> Result<Place, NoMemory>
+    requires utf8 { IsUtf8 valid.now }
+    requires small { length valid.now < 2 ^ 30 }
+    ensures { IfOk result (λ place. (text : List ℕ) × Encoded text valid.now × (place ≡ place_behind text)) }
+{
+    let start = Place { line: 1, column: 1 };
+    match str::from_utf8(valid) {
+        Ok(text) => {
+            let chars = decode(alloc, text)?;
+            Ok(place_past(start, chars.as_slice()))
+        }
+        Err(_) => Ok(start),
     }
 }
 

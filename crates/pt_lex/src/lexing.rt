@@ -59,7 +59,7 @@ fn is_last(kind: &Kind) -> bool
 
 /// The token at the front, and what follows it.
 fn read_token(alloc: Global, text: &[char]) -> Result<(Kind, &[char]), NoMemory>
-    ensures outcome { IfOk result (λ x. Outcome text.now x.0 x.1.now) }
+    ensures { IfOk result (λ x. Outcome text.now x.0 x.1.now) }
 {
     let Some((first, inside)) = text.split_first() else {
         return Ok((Kind::End, text));
@@ -82,7 +82,7 @@ fn read_token(alloc: Global, text: &[char]) -> Result<(Kind, &[char]), NoMemory>
 /// The word, name or bytes at the front, and what follows it.
 fn read_lettered(alloc: Global, text: &[char]) -> Result<(Kind, &[char]), NoMemory>
     requires { StartsLetter text.now }
-    ensures outcome { IfOk result (λ x. Outcome text.now x.0 x.1.now) }
+    ensures { IfOk result (λ x. Outcome text.now x.0 x.1.now) }
 {
     if let Some(inside) = text.strip_prefix(&['x', '"']) {
         return read_bytes(alloc, text, inside);

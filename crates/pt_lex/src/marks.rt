@@ -31,7 +31,8 @@ const MARKS: [Mark; 21] = [
 ];
 
 impl Mark {
-    fn text(self) -> &'static [char]
+    /// The mark as it is written.
+    pub fn text(self) -> &'static [char]
         ensures { result.now ≡ mark_text self }
     {
         match self {

@@ -21,7 +21,7 @@ pub(crate) fn read_text<'a>(
     inside: &'a [char],
 ) -> Result<(Kind, &'a [char]), NoMemory>
     requires { text.now ≡ 34 ∷ inside.now }
-    ensures outcome { IfOk result (λ x. Outcome text.now x.0 x.1.now) }
+    ensures { IfOk result (λ x. Outcome text.now x.0 x.1.now) }
 {
     match read_chars(alloc, inside)? {
         Some((chars, rest)) => Ok((text_kind(chars), rest)),
@@ -41,7 +41,7 @@ fn text_kind(chars: Chars) -> Kind
 
 /// The characters up to a quote, and what stands behind it.
 fn read_chars(alloc: Global, text: &[char]) -> Result<Option<(Chars, &[char])>, NoMemory>
-    ensures found { IfOk result (λ found. MatchOption found ((chars rest : List ℕ) → Closes SpellsChar chars text.now rest → ⊥)
+    ensures { IfOk result (λ found. MatchOption found ((chars rest : List ℕ) → Closes SpellsChar chars text.now rest → ⊥)
         (λ x. Closes SpellsChar x.0 text.now x.1.now)) }
 {
     let mut chars = Chars::empty(alloc);
@@ -61,7 +61,7 @@ fn read_chars(alloc: Global, text: &[char]) -> Result<Option<(Chars, &[char])>, 
 
 /// The character at the front, and what follows it.
 fn read_char(text: &[char]) -> Option<(char, &[char])>
-    ensures found { MatchOption result ((char : ℕ) (rest : List ℕ) → Splits SpellsChar char text.now rest → ⊥) (λ x. Splits SpellsChar x.0 text.now x.1.now) }
+    ensures { MatchOption result ((char : ℕ) (rest : List ℕ) → Splits SpellsChar char text.now rest → ⊥) (λ x. Splits SpellsChar x.0 text.now x.1.now) }
 {
     let (first, rest) = text.split_first()?;
     if *first == '\\' {
@@ -82,7 +82,7 @@ fn is_plain(char: char) -> bool
 
 /// The character that stands behind a backslash, and what follows it.
 fn read_escape(text: &[char]) -> Option<(char, &[char])>
-    ensures found { MatchOption result ((char : ℕ) (rest : List ℕ) → Splits SpellsChar char (92 ∷ text.now) rest → ⊥) (λ x. Splits SpellsChar x.0 (92 ∷ text.now) x.1.now) }
+    ensures { MatchOption result ((char : ℕ) (rest : List ℕ) → Splits SpellsChar char (92 ∷ text.now) rest → ⊥) (λ x. Splits SpellsChar x.0 (92 ∷ text.now) x.1.now) }
 {
     let (first, rest) = text.split_first()?;
     match *first {
@@ -94,7 +94,7 @@ fn read_escape(text: &[char]) -> Option<(char, &[char])>
 
 /// The character that a code in braces stands for, and what follows it.
 fn read_code(text: &[char]) -> Option<(char, &[char])>
-    ensures found { MatchOption result ((char : ℕ) (rest : List ℕ) → Splits IsCode char text.now rest → ⊥) (λ x. Splits IsCode x.0 text.now x.1.now) }
+    ensures { MatchOption result ((char : ℕ) (rest : List ℕ) → Splits IsCode char text.now rest → ⊥) (λ x. Splits IsCode x.0 text.now x.1.now) }
 {
     let digits = text.strip_prefix(&['{'])?;
     let (code, rest) = read_digits(digits)?;

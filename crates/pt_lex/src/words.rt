@@ -1,5 +1,6 @@
 ghost use Rattle.std.specs.Prelude.{◌≡◌, ◌≤◌, true, IfOk, length};
 ghost use Rattle.pt_val.specs.Name.{is_name, is_name_byte};
+ghost use Rattle.pt_lex.specs.Outcome.{StartsLetter};
 ghost use Rattle.pt_lex.specs.Words.{word_text};
 ghost use Rattle.pt_lex.specs.reading.Word.{behind_word, all_words, same_text, word_among, word_token};
 
@@ -76,7 +77,8 @@ const WORDS: [Word; 61] = [
 const MOST_CHARS: usize = 40;
 
 impl Word {
-    fn text(self) -> &'static [u8]
+    /// The word as it is written.
+    pub fn text(self) -> &'static [u8]
         ensures { result.now ≡ word_text self }
     {
         match self {
@@ -214,6 +216,7 @@ fn name_of(alloc: Global, text: &[char]) -> Result<Name, NoMemory>
 /// The reserved word or name at the front, and what follows it.
 #[tactic(auto, unfolding(crate::specs::reading::Word::word_token))]
 pub(crate) fn read_word(alloc: Global, text: &[char]) -> Result<(Kind, &[char]), NoMemory>
+    requires { StartsLetter text.now }
     ensures { IfOk result (λ x. (x.0, x.1.now) ≡ word_token text.now) }
 {
     let rest = behind_word(text);

@@ -1,0 +1,11 @@
+use Rattle.std.proofs.Common.{◌≡◌, ℕ, List, ◌++◌, length}
+use Rattle.pt_wire.specs.Spelling.{Chained}
+use Rattle.pt_lex.specs.Texts.{SpellsChar}
+use Rattle.pt_lex.proofs.texts.read_chars.Given as goal
+
+-- what was passed spells the chars so far
+abbrev pub invariant-loop-first : goal.invariant-loop-first
+invariant-loop-first l = (passed : List ℕ) × Chained SpellsChar l.chars passed × (l.text ≡ passed ++ l.rest)
+
+abbrev pub decreases-loop-first : goal.decreases-loop-first
+decreases-loop-first l = length l.rest
