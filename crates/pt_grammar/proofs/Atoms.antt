@@ -257,11 +257,26 @@ module _ (left : ℕ) (inside : Readers) (exprs : Form (0 < left) (Level (left -
       form : (t.kind ≡ kind.Word (word.Func which)) × (t.at ≡ at) × (Opens s left opening ⨾ IsExpr s (left - 1) 0 first ⨾ Joined s (left - 1) comma 0 others ⨾ One close) x → Call_form t.at func s (Call_of at which (more_expr first others)) x
       form (k, p, (a, b, o, (c, d, q, (f, g, more, last, e3), e2), e1)) = (
         tt,
-        (a, b, o, (first, (c, d, q, (
-          exprs_in others,
-          ap (λ r. Call_of r which (more_expr first others)) (sym p) ∙ ap (λ w. Call_of t.at w (more_expr first others)) (ap (λ m. func_in m func) (sym k ∙ e)) ∙ ap (λ w. Call_of t.at func (more_expr first w)) (exprs_again others),
-          (f, g, joined_to s (left - 1) comma 0 others f more, last, e3),
-        ), e2)), e1),
+        (
+          a,
+          b,
+          o,
+          (
+            first,
+            (
+              c,
+              d,
+              q,
+              (
+                exprs_in others,
+                ap (λ r. Call_of r which (more_expr first others)) (sym p) ∙ ap (λ w. Call_of t.at w (more_expr first others)) (ap (λ m. func_in m func) (sym k ∙ e)) ∙ ap (λ w. Call_of t.at func (more_expr first w)) (exprs_again others),
+                (f, g, joined_to s (left - 1) comma 0 others f more, last, e3),
+              ),
+              e2,
+            ),
+          ),
+          e1,
+        ),
       )
     call_from func e s (Call_of at which no_expr) x h = absurd h
     call_from func e s other x h = absurd (omega (arith, sym (ap class e) ∙ atom_class s left other t x h))
@@ -276,11 +291,47 @@ module _ (left : ℕ) (inside : Readers) (exprs : Form (0 < left) (Level (left -
           × (Opens s left opening ⨾ IsName s given ⨾ One comma ⨾ IsExpr s (left - 1) 0 list ⨾ One comma ⨾ IsExpr s (left - 1) 0 body ⨾ One close) x → Bind_form t.at binder s (Bind_of at which given list body) x
       form (k, p, (a, b, o, (c, d, n, (f, g, m, (i, j, l, (a', b', m', last, e5), e4), e3), e2), e1)) = (
         tt,
-        (a, b, o, (given, (c, d, n, (f, g, m, (list, (i, j, l, (a', b', m', (
-          body,
-          ap (λ r. Bind_of r which given list body) (sym p) ∙ ap (λ w. Bind_of t.at w given list body) (ap (λ m. binder_in m binder) (sym k ∙ e)),
-          last,
-        ), e5), e4)), e3), e2)), e1),
+        (
+          a,
+          b,
+          o,
+          (
+            given,
+            (
+              c,
+              d,
+              n,
+              (
+                f,
+                g,
+                m,
+                (
+                  list,
+                  (
+                    i,
+                    j,
+                    l,
+                    (
+                      a',
+                      b',
+                      m',
+                      (
+                        body,
+                        ap (λ r. Bind_of r which given list body) (sym p) ∙ ap (λ w. Bind_of t.at w given list body) (ap (λ m. binder_in m binder) (sym k ∙ e)),
+                        last,
+                      ),
+                      e5,
+                    ),
+                    e4,
+                  ),
+                ),
+                e3,
+              ),
+              e2,
+            ),
+          ),
+          e1,
+        ),
       )
     bind_from binder e s other x h = absurd (omega (arith, sym (ap class e) ∙ atom_class s left other t x h))
 
@@ -295,11 +346,23 @@ module _ (left : ℕ) (inside : Readers) (exprs : Form (0 < left) (Level (left -
     round_from e s (Tuple_of at (more_expr first (more_expr second others))) x h = form (nests_then _ _ _ _ _ t x h) where
       form : (t.kind ≡ opening) × (t.at ≡ at) × (MindsNesting s → IsReal t → 0 < left) × (IsExpr s (left - 1) 0 first ⨾ MoreExprs s (left - 1) 7 (more_expr second others) ⨾ One close) x
           → (MindsNesting s → IsReal t → 0 < left) × Round_form t.at s (Tuple_of at (more_expr first (more_expr second others))) x
-      form (k, p, room, (a, b, q, (c, d, more, last, e2), e1)) = (room, (first, (a, b, q, (
-        second ∷ exprs_in others,
-        ap (λ r. Tuple_of r (more_expr first (more_expr second others))) (sym p) ∙ ap (λ w. Tuple_of t.at (more_expr first (more_expr second w))) (exprs_again others),
-        (c, d, more_to s (left - 1) 7 (more_expr second others) c more, last, e2),
-      ), e1)))
+      form (k, p, room, (a, b, q, (c, d, more, last, e2), e1)) = (
+        room,
+        (
+          first,
+          (
+            a,
+            b,
+            q,
+            (
+              second ∷ exprs_in others,
+              ap (λ r. Tuple_of r (more_expr first (more_expr second others))) (sym p) ∙ ap (λ w. Tuple_of t.at (more_expr first (more_expr second w))) (exprs_again others),
+              (c, d, more_to s (left - 1) 7 (more_expr second others) c more, last, e2),
+            ),
+            e1,
+          ),
+        ),
+      )
     round_from e s (Tuple_of at others) x h = absurd h
     round_from e s other x h = absurd (omega (arith, sym (ap class e) ∙ atom_class s left other t x h))
 
@@ -313,11 +376,23 @@ module _ (left : ℕ) (inside : Readers) (exprs : Form (0 < left) (Level (left -
     square_from e s (List_of at (more_expr first others)) x h = form (nests_then _ _ _ _ _ t x h) where
       form : (t.kind ≡ open_square) × (t.at ≡ at) × (MindsNesting s → IsReal t → 0 < left) × (IsExpr s (left - 1) 0 first ⨾ MoreExprs s (left - 1) 63 others ⨾ One close_square) x
           → (MindsNesting s → IsReal t → 0 < left) × Square_form t.at s (List_of at (more_expr first others)) x
-      form (k, p, room, (a, b, q, (c, d, more, last, e2), e1)) = (room, (first, (a, b, q, (
-        exprs_in others,
-        ap (λ r. List_of r (more_expr first others)) (sym p) ∙ ap (λ w. List_of t.at (more_expr first w)) (exprs_again others),
-        (c, d, more_to s (left - 1) 63 others c more, last, e2),
-      ), e1)))
+      form (k, p, room, (a, b, q, (c, d, more, last, e2), e1)) = (
+        room,
+        (
+          first,
+          (
+            a,
+            b,
+            q,
+            (
+              exprs_in others,
+              ap (λ r. List_of r (more_expr first others)) (sym p) ∙ ap (λ w. List_of t.at (more_expr first w)) (exprs_again others),
+              (c, d, more_to s (left - 1) 63 others c more, last, e2),
+            ),
+            e1,
+          ),
+        ),
+      )
     square_from e s (List_of at no_expr) x h = absurd h
     square_from e s other x h = absurd (omega (arith, sym (ap class e) ∙ atom_class s left other t x h))
 

@@ -46,20 +46,20 @@ pub operator_form : {A : Type 0} (C : Type 0) (operator : Kind → Option A) →
     → Form C (Operators operator) on (operator_at operator)
 operator_form {A} C operator ends k some is on = token_form C (Operators operator) on (λ place which. operator_found place (operator which))
     ((record { line = 0; column = 0 }, some), made k ∷ [], λ s. (made k, is, refl, refl), λ real. unreal k real) (record {
-  single = λ s a t x h. (operator_one operator a.0 a.1 t x h).2;
-  empty = λ s a h. let only = h.3 in cc;
-  good = λ t a e s. let y = found_yes t.at (operator t.kind) a e in (t, y.0, y.1, refl);
-  clean = λ t a e. clean t.kind (is_last t.kind) refl a.1 (found_yes t.at (operator t.kind) a e).0;
-  same = λ t a e s b h. let y = found_yes t.at (operator t.kind) a e in let o = operator_one operator b.0 b.1 t [] h in same a b (sym o.1 ∙ y.1) (sym o.0 ∙ y.0);
-  early = λ t w e s before. absurd (none_before s (subst (λ v. IsBefore s v) (found_no t.at (operator t.kind) w e).1 before));
-  broken = λ t w e real s late b h. let clash : Some b.1 ≡ None = sym (operator_one operator b.0 b.1 t [] h).0 ∙ (found_no t.at (operator t.kind) w e).0 in cc;
-}) where
-  clean : (k : Kind) (b : Bool) → is_last k ≡ b → (a : A) → operator k ≡ Some a → b ≡ false
-  clean k true e a h = let clash : Some a ≡ None = sym h ∙ ends k e in absurd cc
-  clean k false e a h = refl
+      single = λ s a t x h. (operator_one operator a.0 a.1 t x h).2;
+      empty = λ s a h. let only = h.3 in cc;
+      good = λ t a e s. let y = found_yes t.at (operator t.kind) a e in (t, y.0, y.1, refl);
+      clean = λ t a e. clean t.kind (is_last t.kind) refl a.1 (found_yes t.at (operator t.kind) a e).0;
+      same = λ t a e s b h. let y = found_yes t.at (operator t.kind) a e in let o = operator_one operator b.0 b.1 t [] h in same a b (sym o.1 ∙ y.1) (sym o.0 ∙ y.0);
+      early = λ t w e s before. absurd (none_before s (subst (λ v. IsBefore s v) (found_no t.at (operator t.kind) w e).1 before));
+      broken = λ t w e real s late b h. let clash : Some b.1 ≡ None = sym (operator_one operator b.0 b.1 t [] h).0 ∙ (found_no t.at (operator t.kind) w e).0 in cc;
+    }) where
+      clean : (k : Kind) (b : Bool) → is_last k ≡ b → (a : A) → operator k ≡ Some a → b ≡ false
+      clean k true e a h = let clash : Some a ≡ None = sym h ∙ ends k e in absurd cc
+      clean k false e a h = refl
 
-  same : (a b : Place × A) → b.0 ≡ a.0 → Some b.1 ≡ Some a.1 → b ≡ a
-  same a b p q = let second : b.1 ≡ a.1 = cc in ap (λ (x : Place). (x, b.1)) p ∙ ap (λ (y : A). (a.0, y)) second
+      same : (a b : Place × A) → b.0 ≡ a.0 → Some b.1 ≡ Some a.1 → b ≡ a
+      same a b p q = let second : b.1 ≡ a.1 = cc in ap (λ (x : Place). (x, b.1)) p ∙ ap (λ (y : A). (a.0, y)) second
 
 -- ---- a chain of a level
 

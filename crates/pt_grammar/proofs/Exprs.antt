@@ -102,12 +102,20 @@ or_to left t s v x (first, (y, z, p, ([], same, q), e)) = subst (λ w. IsExpr s 
 or_to left t s v x (first, (y, z, p, (second ∷ others, same, q), e)) = subst (λ w. IsExpr s left 1 w (t ∷ x)) (sym same) (omega arith, refl, (y, z, p, joined_from s left (kind.Word word.Or) 2 (second ∷ others) z q, e))
 
 or_from : (left : ℕ) (t : Token) (s : Sort) (v : ExprTree) (x : List Token) → IsExpr s left 1 v (t ∷ x) → Chain left 2 (Operand left 2 (kind.Word word.Or)) or_tree t.at s v (t ∷ x)
-or_from left t s (Or_of place (more_expr first (more_expr second others))) x (le, starts, (y, z, p, q, e)) =
-    (first, (y, z, p, (
+or_from left t s (Or_of place (more_expr first (more_expr second others))) x (le, starts, (y, z, p, q, e)) = (
+  first,
+  (
+    y,
+    z,
+    p,
+    (
       second ∷ exprs_in others,
       ap (λ w. Or_of place (more_expr first (more_expr second w))) (exprs_again others) ∙ ap (λ r. Or_of r (more_expr first (more_expr second (exprs_of (exprs_in others))))) (sym starts),
       joined_to s left (kind.Word word.Or) 2 (more_expr second others) z q,
-    ), e))
+    ),
+    e,
+  ),
+)
 or_from left t s (Or_of place others) x h = absurd h
 or_from left t s other x h =
     alone_chain left 2 (Operand left 2 (kind.Word word.Or)) or_tree t.at (λ v. refl) s other (t ∷ x) (tighter s left 1 other (λ place n e. inl (omega arith)) (t ∷ x) (omega (arith, reaches s left 1 (omega arith) other (t ∷ x) h)) h)
@@ -117,12 +125,20 @@ and_to left t s v x (first, (y, z, p, ([], same, q), e)) = subst (λ w. IsExpr s
 and_to left t s v x (first, (y, z, p, (second ∷ others, same, q), e)) = subst (λ w. IsExpr s left 2 w (t ∷ x)) (sym same) (omega arith, refl, (y, z, p, joined_from s left (kind.Word word.And) 3 (second ∷ others) z q, e))
 
 and_from : (left : ℕ) (t : Token) (s : Sort) (v : ExprTree) (x : List Token) → IsExpr s left 2 v (t ∷ x) → Chain left 3 (Operand left 3 (kind.Word word.And)) and_tree t.at s v (t ∷ x)
-and_from left t s (And_of place (more_expr first (more_expr second others))) x (le, starts, (y, z, p, q, e)) =
-    (first, (y, z, p, (
+and_from left t s (And_of place (more_expr first (more_expr second others))) x (le, starts, (y, z, p, q, e)) = (
+  first,
+  (
+    y,
+    z,
+    p,
+    (
       second ∷ exprs_in others,
       ap (λ w. And_of place (more_expr first (more_expr second w))) (exprs_again others) ∙ ap (λ r. And_of r (more_expr first (more_expr second (exprs_of (exprs_in others))))) (sym starts),
       joined_to s left (kind.Word word.And) 3 (more_expr second others) z q,
-    ), e))
+    ),
+    e,
+  ),
+)
 and_from left t s (And_of place others) x h = absurd h
 and_from left t s other x h =
     alone_chain left 3 (Operand left 3 (kind.Word word.And)) and_tree t.at (λ v. refl) s other (t ∷ x) (tighter s left 2 other (λ place n e. inl (omega arith)) (t ∷ x) (omega (arith, reaches s left 2 (omega arith) other (t ∷ x) h)) h)
@@ -132,12 +148,20 @@ sum_to left t s v x (first, (y, z, p, ([], same, q), e)) = subst (λ w. IsExpr s
 sum_to left t s v x (first, (y, z, p, (second ∷ others, same, q), e)) = subst (λ w. IsExpr s left 5 w (t ∷ x)) (sym same) (omega arith, refl, (y, z, p, tails_from s left sum_of 6 (second ∷ others) z q, e))
 
 sum_from : (left : ℕ) (t : Token) (s : Sort) (v : ExprTree) (x : List Token) → IsExpr s left 5 v (t ∷ x) → Chain left 6 (Tail_form left sum_of 6) sum_tree t.at s v (t ∷ x)
-sum_from left t s (Sum_of place first (more_tail second others)) x (le, starts, (y, z, p, q, e)) =
-    (first, (y, z, p, (
+sum_from left t s (Sum_of place first (more_tail second others)) x (le, starts, (y, z, p, q, e)) = (
+  first,
+  (
+    y,
+    z,
+    p,
+    (
       second ∷ tails_in others,
       ap (λ w. Sum_of place first (more_tail second w)) (tails_again others) ∙ ap (λ r. Sum_of r first (more_tail second (tails_of (tails_in others)))) (sym starts),
       tails_to s left sum_of 6 (more_tail second others) z q,
-    ), e))
+    ),
+    e,
+  ),
+)
 sum_from left t s (Sum_of place first no_tail) x h = absurd h
 sum_from left t s other x h =
     alone_chain left 6 (Tail_form left sum_of 6) sum_tree t.at (λ v. refl) s other (t ∷ x) (tighter s left 5 other (λ place n e. inl (omega arith)) (t ∷ x) (omega (arith, reaches s left 5 (omega arith) other (t ∷ x) h)) h)
@@ -147,12 +171,20 @@ product_to left t s v x (first, (y, z, p, ([], same, q), e)) = subst (λ w. IsEx
 product_to left t s v x (first, (y, z, p, (second ∷ others, same, q), e)) = subst (λ w. IsExpr s left 6 w (t ∷ x)) (sym same) (omega arith, refl, (y, z, p, tails_from s left product_of 7 (second ∷ others) z q, e))
 
 product_from : (left : ℕ) (t : Token) (s : Sort) (v : ExprTree) (x : List Token) → IsExpr s left 6 v (t ∷ x) → Chain left 7 (Tail_form left product_of 7) product_tree t.at s v (t ∷ x)
-product_from left t s (Prod_of place first (more_tail second others)) x (le, starts, (y, z, p, q, e)) =
-    (first, (y, z, p, (
+product_from left t s (Prod_of place first (more_tail second others)) x (le, starts, (y, z, p, q, e)) = (
+  first,
+  (
+    y,
+    z,
+    p,
+    (
       second ∷ tails_in others,
       ap (λ w. Prod_of place first (more_tail second w)) (tails_again others) ∙ ap (λ r. Prod_of r first (more_tail second (tails_of (tails_in others)))) (sym starts),
       tails_to s left product_of 7 (more_tail second others) z q,
-    ), e))
+    ),
+    e,
+  ),
+)
 product_from left t s (Prod_of place first no_tail) x h = absurd h
 product_from left t s other x h =
     alone_chain left 7 (Tail_form left product_of 7) product_tree t.at (λ v. refl) s other (t ∷ x) (tighter s left 6 other (λ place n e. inl (omega arith)) (t ∷ x) (omega (arith, reaches s left 6 (omega arith) other (t ∷ x) h)) h)
@@ -162,12 +194,20 @@ post_to left t s v x (first, (y, z, p, ([], same, q), e)) = subst (λ w. IsExpr 
 post_to left t s v x (first, (y, z, p, (second ∷ others, same, q), e)) = subst (λ w. IsExpr s left 8 w (t ∷ x)) (sym same) (omega arith, refl, (y, z, p, posts_from s left (second ∷ others) z q, e))
 
 post_from : (left : ℕ) (t : Token) (s : Sort) (v : ExprTree) (x : List Token) → IsExpr s left 8 v (t ∷ x) → Chain left 9 (Post_form left) post_tree t.at s v (t ∷ x)
-post_from left t s (Post_of place first (more_post second others)) x (le, starts, (y, z, p, q, e)) =
-    (first, (y, z, p, (
+post_from left t s (Post_of place first (more_post second others)) x (le, starts, (y, z, p, q, e)) = (
+  first,
+  (
+    y,
+    z,
+    p,
+    (
       second ∷ posts_in others,
       ap (λ w. Post_of place first (more_post second w)) (posts_again others) ∙ ap (λ r. Post_of r first (more_post second (posts_of (posts_in others)))) (sym starts),
       posts_to s left (more_post second others) z q,
-    ), e))
+    ),
+    e,
+  ),
+)
 post_from left t s (Post_of place first no_post) x h = absurd h
 post_from left t s other x h =
     alone_chain left 9 (Post_form left) post_tree t.at (λ v. refl) s other (t ∷ x) (tighter s left 8 other (λ place n e. inr (omega arith)) (t ∷ x) (omega (arith, reaches s left 8 (omega arith) other (t ∷ x) h)) h)

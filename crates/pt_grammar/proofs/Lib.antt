@@ -13,3 +13,5 @@ pub mod Stmts
 pub mod Machines
 pub mod Suites
 pub mod SuiteTexts
+pub mod Bounded
+pub mod Numbered

@@ -241,12 +241,47 @@ into_back s (Some into) ts h = h
 rule_out : (left from : ℕ) (t : Token) → t.kind ≡ kind.Word word.Rule → (s : Sort) (v : RuleTree) (x : List Token) → Rules left from s v (t ∷ x) → Ruled left from t.at s v x
 rule_out left from t e s v x h = form (at_then _ _ _ t x h) where
   form : (t.kind ≡ kind.Word word.Rule) × (t.at ≡ v.at) × (IsName s v.name ⨾ IsWhen s left v.when ⨾ IsInto s v.into ⨾ Opens s left open_brace ⨾ AreRuleStmts s (left - 1) from v.stmts ⨾ One close_brace) x → Ruled left from t.at s v x
-  form (k, p, (a, b, n, (c, d, w, (f, g, i, (j, l, o, last, e4), e3), e2), e1)) =
-      (v.name, (a, b, n, (v.when, (c, d, when_to left s v.when c w, (v.into, (f, g, into_to s v.into f i, (tt, (j, l, o, (
-        v.stmts,
-        ap (λ (q : Place). record { at = q; name = v.name; when = v.when; into = v.into; stmts = v.stmts }) (sym p),
-        last,
-      ), e4)), e3)), e2)), e1))
+  form (k, p, (a, b, n, (c, d, w, (f, g, i, (j, l, o, last, e4), e3), e2), e1)) = (
+    v.name,
+    (
+      a,
+      b,
+      n,
+      (
+        v.when,
+        (
+          c,
+          d,
+          when_to left s v.when c w,
+          (
+            v.into,
+            (
+              f,
+              g,
+              into_to s v.into f i,
+              (
+                tt,
+                (
+                  j,
+                  l,
+                  o,
+                  (
+                    v.stmts,
+                    ap (λ (q : Place). record { at = q; name = v.name; when = v.when; into = v.into; stmts = v.stmts }) (sym p),
+                    last,
+                  ),
+                  e4,
+                ),
+              ),
+              e3,
+            ),
+          ),
+          e2,
+        ),
+      ),
+      e1,
+    ),
+  )
 
 rule_put : (left from : ℕ) (t : Token) → t.kind ≡ kind.Word word.Rule → (s : Sort) (v : RuleTree) (x : List Token) → Ruled left from t.at s v x → Rules left from s v (t ∷ x)
 rule_put left from t e s v x (name, (a, b, n, (cond, (c, d, w, (into, (f, g, i, (u, (j, l, o, (stmts, same, last), e4)), e3)), e2)), e1)) =
@@ -415,12 +450,47 @@ module _ (left from : ℕ) where
             subst (λ w. Machines s w ts) (sym same) (refl, (a, b, o, (c, d, p, (f, g, q, (i, j, r, last, e4), e3), e2), e1))
 
         back : (s : Sort) (v : MachineTree) (ts : List Token) → Machines s v ts → Seq (Openings left open_brace) (λ u. Inside) s v ts
-        back s v ts (n, (a, b, o, (c, d, p, (f, g, q, (i, j, r, last, e4), e3), e2), e1)) =
-            (tt, (a, b, o, (v.states, (c, d, p, (v.bundles, (f, g, q, (v.invariants, (i, j, r, (
-              v.rules,
-              ap (λ (w : ℕ). record { num = w; states = v.states; bundles = v.bundles; invariants = v.invariants; rules = v.rules }) n,
-              last,
-            ), e4)), e3)), e2)), e1))
+        back s v ts (n, (a, b, o, (c, d, p, (f, g, q, (i, j, r, last, e4), e3), e2), e1)) = (
+          tt,
+          (
+            a,
+            b,
+            o,
+            (
+              v.states,
+              (
+                c,
+                d,
+                p,
+                (
+                  v.bundles,
+                  (
+                    f,
+                    g,
+                    q,
+                    (
+                      v.invariants,
+                      (
+                        i,
+                        j,
+                        r,
+                        (
+                          v.rules,
+                          ap (λ (w : ℕ). record { num = w; states = v.states; bundles = v.bundles; invariants = v.invariants; rules = v.rules }) n,
+                          last,
+                        ),
+                        e4,
+                      ),
+                    ),
+                    e3,
+                  ),
+                ),
+                e2,
+              ),
+            ),
+            e1,
+          ),
+        )
 
 pub machine_opens : (left from : ℕ) (on : Kind → Bool) → on open_brace ≡ false → (s : Sort) (v : MachineTree) (ts z : List Token) → Machines left from s v ts → Stops on (ts ++ z)
 machine_opens left from on stop s v ts z (n, (x, y, (t, k, only, room), q, e)) = subst (λ w. Stops on (w ++ z)) (sym (e ∙ ap (λ w. w ++ y) only)) (ap on k ∙ stop)

@@ -24,8 +24,7 @@ use Rattle.pt_grammar.proofs.Lists.{last_sort, early_sort}
 pub fitting_one : (s : Sort) (which long : Kind) (at : Place) (t : Token) (x : List Token) → Fitting s which long at (t ∷ x)
     → ((t.kind ≡ which) ⊎ ((t.kind ≡ long) × (MindsAll s → IsReal t → ⊥))) × (t.at ≡ at) × (x ≡ [])
 fitting_one s which long at t x (u, k, stands, only) =
-    let same : u ≡ t = cc in
-    (
+    let same : u ≡ t = cc in (
       subst (λ (c : Token). (c.kind ≡ which) ⊎ ((c.kind ≡ long) × (MindsAll s → IsReal c → ⊥))) same k,
       subst (λ (c : Token). c.at ≡ at) same stands,
       cc,
@@ -162,22 +161,22 @@ module _ {A : Type 0} (make : Place → ℕ → A) (fits : ℕ → Bool) where
   counted_form : (C : Type 0) (on : Kind → Bool) → Form C (Counted make fits) on (token_at (counted make fits))
   counted_form C on = token_form C (Counted make fits) on (counted make fits)
       (make (record { line = 0; column = 0 }) 0, made (kind.Number 0) ∷ [], λ s. (made (kind.Number 0), 0, refl, refl, refl, λ minds real. absurd (unreal (kind.Number 0) real)), λ real. unreal (kind.Number 0) real) (record {
-    single = λ s a t x h. (counted_one s a t x h).3;
-    empty = λ s a h. let only = h.4 in cc;
-    good = λ t a e s. let y = yes t.kind t.at a e in (t, y.0, y.1, y.2, refl, λ minds real. y.3);
-    clean = λ t a e. ap is_last (yes t.kind t.at a e).1;
-    same = λ t a e s b h. let y = yes t.kind t.at a e in let o = counted_one s b t [] h in o.2 ∙ ap (make t.at) (ap number_in (sym o.1 ∙ y.1)) ∙ sym y.2;
-    early = λ t w e s before. elim (refuses t.kind t.at w e) [
-      | inl out ↦ (make t.at out.0, [], (t, out.0, out.1, refl, refl, λ minds real. absurd (early_sort s sort.OutOfRange (subst (λ v. IsBefore s v) out.2 before) minds)))
-      | inr plain ↦ absurd (none_before s (subst (λ v. IsBefore s v) plain.0 before))
-    ];
-    broken = λ t w e real s late b h. elim (refuses t.kind t.at w e) [
-      | inl out ↦ (let o = counted_one s b t [] h in
-        let fit : fits out.0 ≡ true = ap fits (ap number_in (sym out.1 ∙ o.1)) ∙ o.4 (last_sort s (λ before. late (subst (λ v. IsBefore s v) (sym out.2) before))) real in
-        let both : true ≡ false = sym fit ∙ out.3 in cc)
-      | inr plain ↦ (let o = counted_one s b t [] h in plain.1 o.0 o.1)
-    ];
-  })
+        single = λ s a t x h. (counted_one s a t x h).3;
+        empty = λ s a h. let only = h.4 in cc;
+        good = λ t a e s. let y = yes t.kind t.at a e in (t, y.0, y.1, y.2, refl, λ minds real. y.3);
+        clean = λ t a e. ap is_last (yes t.kind t.at a e).1;
+        same = λ t a e s b h. let y = yes t.kind t.at a e in let o = counted_one s b t [] h in o.2 ∙ ap (make t.at) (ap number_in (sym o.1 ∙ y.1)) ∙ sym y.2;
+        early = λ t w e s before. elim (refuses t.kind t.at w e) [
+          | inl out ↦ (make t.at out.0, [], (t, out.0, out.1, refl, refl, λ minds real. absurd (early_sort s sort.OutOfRange (subst (λ v. IsBefore s v) out.2 before) minds)))
+          | inr plain ↦ absurd (none_before s (subst (λ v. IsBefore s v) plain.0 before))
+        ];
+        broken = λ t w e real s late b h. elim (refuses t.kind t.at w e) [
+          | inl out ↦ (let o = counted_one s b t [] h in
+              let fit : fits out.0 ≡ true = ap fits (ap number_in (sym out.1 ∙ o.1)) ∙ o.4 (last_sort s (λ before. late (subst (λ v. IsBefore s v) (sym out.2) before))) real in
+              let both : true ≡ false = sym fit ∙ out.3 in cc)
+          | inr plain ↦ (let o = counted_one s b t [] h in plain.1 o.0 o.1)
+        ];
+      })
 
 abbrev pub Numbers : Family (Place × ℤ)
 Numbers s a = Number s a.0 a.1
@@ -218,9 +217,13 @@ fits least most n = nat_le least n && nat_le n most
 pub limited_form : (C : Type 0) (least most : ℕ) (on : Kind → Bool) → Form C (Limits least most) on (token_at (limited_seen least most))
 limited_form C least most on = form_same C (Counted (λ place n. n) (fits least most)) (Limits least most) on (token_at (limited_seen least most)) to from (counted_form (λ place n. n) (fits least most) C on) where
   to : (s : Sort) (a : ℕ) (ts : List Token) → Counted (λ place n. n) (fits least most) s a ts → Limits least most s a ts
-  to s a ts (t, n, k, same, only, room) =
-      (t, k ∙ ap (λ m. kind.Number m) (sym same), only, λ minds real. let both = and_parts (nat_le least n) (nat_le n most) (room minds real) in
-      subst (IsBetween least most) (sym same) (leb-true least n both.0, leb-true n most both.1))
+  to s a ts (t, n, k, same, only, room) = (
+    t,
+    k ∙ ap (λ m. kind.Number m) (sym same),
+    only,
+    λ minds real. let both = and_parts (nat_le least n) (nat_le n most) (room minds real) in
+        subst (IsBetween least most) (sym same) (leb-true least n both.0, leb-true n most both.1),
+  )
 
   from : (s : Sort) (a : ℕ) (ts : List Token) → Limits least most s a ts → Counted (λ place n. n) (fits least most) s a ts
   from s a ts (t, k, only, room) = (t, a, k, refl, only, λ minds real. let r = room minds real in and_both (nat_le least a) (nat_le a most) (le-leb least a r.0) (le-leb a most r.1))

@@ -68,21 +68,19 @@ chars_in other = []
 alphabet_one : (s : Sort) (a : Alphabet) (t : Token) (x : List Token) → IsAlphabet s a (t ∷ x)
     → (((t.kind ≡ kind.Text a.chars) × (MindsAll s → IsReal t → 0 < length a.chars)) ⊎ ((t.kind ≡ kind.LongText) × (MindsAll s → IsReal t → ⊥))) × (t.at ≡ a.at) × (x ≡ [])
 alphabet_one s a t x (u, k, stands, only) =
-    let same : u ≡ t = cc in
-    (
+    let same : u ≡ t = cc in (
       subst (λ (c : Token). ((c.kind ≡ kind.Text a.chars) × (MindsAll s → IsReal c → 0 < length a.chars)) ⊎ ((c.kind ≡ kind.LongText) × (MindsAll s → IsReal c → ⊥))) same k,
       subst (λ (c : Token). c.at ≡ a.at) same stands,
       cc,
     )
 
 alphabet_form : (C : Type 0) (on : Kind → Bool) → Form C Alphabets on alphabet_at
-alphabet_form C on = token_form C Alphabets on alphabet_seen
-    (
-      record { at = record { line = 0; column = 0 }; chars = [] },
-      made (kind.Text []) ∷ [],
-      λ s. (made (kind.Text []), inl (refl, λ minds real. absurd (unreal (kind.Text []) real)), refl, refl),
-      λ real. unreal (kind.Text []) real,
-    ) (record {
+alphabet_form C on = token_form C Alphabets on alphabet_seen (
+  record { at = record { line = 0; column = 0 }; chars = [] },
+  made (kind.Text []) ∷ [],
+  λ s. (made (kind.Text []), inl (refl, λ minds real. absurd (unreal (kind.Text []) real)), refl, refl),
+  λ real. unreal (kind.Text []) real,
+) (record {
   single = λ s a t x h. (alphabet_one s a t x h).2;
   empty = λ s a h. let only = h.3 in cc;
   good = λ t a e s. let y = alphabet_yes t.at t.kind a e in (t, inl (y.0, λ minds real. y.2), y.1, refl);
@@ -392,11 +390,41 @@ module _ (left : ℕ) (item : ℕ → List Token → Reading StratTree) (expr : 
           → Tuple_form from t.at s (Tuples_of at num (more_strat first (more_strat second others))) x
       form (k, p, (a, b, o, (c, d, q, (f, g, m, (i, j, r, (a', b', more, last, e5), e4), e3), e2), e1)) = (
         tt,
-        (a, b, o, (first, (c, d, q, (f, g, m, (second, (i, j, r, (
-          strats_in others,
-          moved (λ z w. Tuples_of z w (more_strat first (more_strat second others))) t.at at from num p n ∙ ap (λ w. Tuples_of t.at from (more_strat first (more_strat second w))) (strats_again others),
-          (a', b', more_to s (left - 1) 6 (from + 1 + nodes first + nodes second) others a' more, last, e5),
-        ), e4)), e3), e2)), e1),
+        (
+          a,
+          b,
+          o,
+          (
+            first,
+            (
+              c,
+              d,
+              q,
+              (
+                f,
+                g,
+                m,
+                (
+                  second,
+                  (
+                    i,
+                    j,
+                    r,
+                    (
+                      strats_in others,
+                      moved (λ z w. Tuples_of z w (more_strat first (more_strat second others))) t.at at from num p n ∙ ap (λ w. Tuples_of t.at from (more_strat first (more_strat second w))) (strats_again others),
+                      (a', b', more_to s (left - 1) 6 (from + 1 + nodes first + nodes second) others a' more, last, e5),
+                    ),
+                    e4,
+                  ),
+                ),
+                e3,
+              ),
+              e2,
+            ),
+          ),
+          e1,
+        ),
       )
     tuples_from e s (Tuples_of at num other) x h = absurd h
     tuples_from e s other x h = let k = strat_head s left from other t x h in absurd cc
@@ -412,11 +440,26 @@ module _ (left : ℕ) (item : ℕ → List Token → Reading StratTree) (expr : 
           → One_form from t.at s (OneOf_of at num (more_strat first others)) x
       form (k, p, (a, b, o, (c, d, q, (a', b', more, last, e5), e2), e1)) = (
         tt,
-        (a, b, o, (first, (c, d, q, (
-          strats_in others,
-          moved (λ z w. OneOf_of z w (more_strat first others)) t.at at from num p n ∙ ap (λ w. OneOf_of t.at from (more_strat first w)) (strats_again others),
-          (a', b', more_to s (left - 1) 15 (from + 1 + nodes first) others a' more, last, e5),
-        ), e2)), e1),
+        (
+          a,
+          b,
+          o,
+          (
+            first,
+            (
+              c,
+              d,
+              q,
+              (
+                strats_in others,
+                moved (λ z w. OneOf_of z w (more_strat first others)) t.at at from num p n ∙ ap (λ w. OneOf_of t.at from (more_strat first w)) (strats_again others),
+                (a', b', more_to s (left - 1) 15 (from + 1 + nodes first) others a' more, last, e5),
+              ),
+              e2,
+            ),
+          ),
+          e1,
+        ),
       )
     one_of_from e s (OneOf_of at num no_strat) x h = absurd h
     one_of_from e s other x h = let k = strat_head s left from other t x h in absurd cc

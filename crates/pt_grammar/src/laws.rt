@@ -1,4 +1,4 @@
-ghost use Rattle.pt_grammar.specs.Laws.{OneReading, ReadsOrFaults, NotBoth, OneFault};
+ghost use Rattle.pt_grammar.specs.Laws.{OneReading, ReadsOrFaults, NotBoth, OneFault, KeepsBounds, Numbers};
 
 /// The tokens of a text have one reading at most.
 pub fn one_reading()
@@ -14,4 +14,11 @@ pub fn reads_or_faults()
 /// The tokens of a text have one first fault at most, of one sort.
 pub fn one_fault()
     ensures { OneFault }
+{}
+
+/// The suite that was read keeps the counts and bounds of a suite, where the texts and bytes of its tokens keep theirs; and the nodes
+/// of a suite of 1,048,577 tokens at most are numbered in the order of its text.
+pub fn suites_keep_bounds()
+    ensures bounded { KeepsBounds }
+    ensures numbered { Numbers }
 {}

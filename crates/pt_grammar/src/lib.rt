@@ -4,5 +4,5 @@
 mod laws;
 mod sort;
 
-pub use laws::{one_fault, one_reading, reads_or_faults};
+pub use laws::{one_fault, one_reading, reads_or_faults, suites_keep_bounds};
 pub use sort::Sort;

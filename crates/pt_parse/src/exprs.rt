@@ -9,7 +9,9 @@ ghost use Rattle.pt_grammar.specs.ExprReading.{inner, is_compare, expr_at, row_a
 
 use crate::sign::{Sign, open, starts, take};
 use crate::stop::{Stop, sort_here};
-use crate::tokens::{bytes, comparison, magnitude, name, number, place, product_operator, sum_operator, text};
+use crate::tokens::{
+    bytes, comparison, magnitude, name, number, place, product_operator, sum_operator, text,
+};
 use pt_ast::{Binder, CompareOp, Expr, Exprs, Func, PostTail, PostTails, Tail, Tails};
 use pt_choice::Seq;
 use pt_grammar::Sort;
@@ -20,7 +22,11 @@ use std::alloc::Global;
 /// Reads an expression, where so many levels are left.
 #[cycle(exprs)]
 #[tactic(auto, unfolding(Rattle::pt_grammar::specs::ExprReading::expr_on))]
-pub(crate) fn read_expr(alloc: Global, left: u32, tokens: &[Token]) -> Result<(Expr, &[Token]), Stop<'_>>
+pub(crate) fn read_expr(
+    alloc: Global,
+    left: u32,
+    tokens: &[Token],
+) -> Result<(Expr, &[Token]), Stop<'_>>
     requires few { left ≤ 64 }
     ensures gives { Gives (λ x. (plain_expr x.0, x.1.now)) result (expr_at left tokens.now) }
     ensures shorter { IfOk result (λ x. length x.1.now < length tokens.now) }
@@ -42,7 +48,12 @@ pub(crate) fn read_expr(alloc: Global, left: u32, tokens: &[Token]) -> Result<(E
 /// Reads what stands behind the word `if`.
 #[cycle(exprs)]
 #[tactic(auto, unfolding(Rattle::pt_grammar::specs::ExprReading::if_at))]
-fn read_if(alloc: Global, left: u32, at: Place, tokens: &[Token]) -> Result<(Expr, &[Token]), Stop<'_>>
+fn read_if(
+    alloc: Global,
+    left: u32,
+    at: Place,
+    tokens: &[Token],
+) -> Result<(Expr, &[Token]), Stop<'_>>
     requires some { 0 < left }
     requires few { left ≤ 64 }
     ensures gives { Gives (λ x. (plain_expr x.0, x.1.now)) result (if_at (inner left) at tokens.now) }
@@ -80,7 +91,12 @@ fn read_or(alloc: Global, left: u32, tokens: &[Token]) -> Result<(Expr, &[Token]
 
 /// Reads further operands, each behind an `or`.
 #[cycle(exprs)]
-fn more_ors(alloc: Global, left: u32, parts: Exprs, tokens: &[Token]) -> Result<(Exprs, &[Token]), Stop<'_>>
+fn more_ors(
+    alloc: Global,
+    left: u32,
+    parts: Exprs,
+    tokens: &[Token],
+) -> Result<(Exprs, &[Token]), Stop<'_>>
     requires few { left ≤ 64 }
     ensures gives { Gives (λ x. (map plain_expr x.0, x.1.now)) result (with_front (map plain_expr parts) (row_at (joined_at is_or (and_at left (inner left))) is_or tokens.now)) }
     ensures shorter { IfOk result (λ x. length x.1.now ≤ length tokens.now) }
@@ -126,7 +142,12 @@ fn read_and(alloc: Global, left: u32, tokens: &[Token]) -> Result<(Expr, &[Token
 
 /// Reads further operands, each behind an `and`.
 #[cycle(exprs)]
-fn more_ands(alloc: Global, left: u32, parts: Exprs, tokens: &[Token]) -> Result<(Exprs, &[Token]), Stop<'_>>
+fn more_ands(
+    alloc: Global,
+    left: u32,
+    parts: Exprs,
+    tokens: &[Token],
+) -> Result<(Exprs, &[Token]), Stop<'_>>
     requires few { left ≤ 64 }
     ensures gives { Gives (λ x. (map plain_expr x.0, x.1.now)) result (with_front (map plain_expr parts) (row_at (joined_at is_and (nots_at left (inner left))) is_and tokens.now)) }
     ensures shorter { IfOk result (λ x. length x.1.now ≤ length tokens.now) }
@@ -193,7 +214,11 @@ fn read_comparison(alloc: Global, left: u32, tokens: &[Token]) -> Result<(Expr, 
 }
 
 #[cycle(exprs)]
-fn right_side(alloc: Global, left: u32, tokens: &[Token]) -> Result<((CompareOp, Expr), &[Token]), Stop<'_>>
+fn right_side(
+    alloc: Global,
+    left: u32,
+    tokens: &[Token],
+) -> Result<((CompareOp, Expr), &[Token]), Stop<'_>>
     requires few { left ≤ 64 }
     ensures gives { Gives (λ x. ((x.0.0, plain_expr x.0.1), x.1.now)) result (right_at (sum_at left (inner left)) tokens.now) }
     ensures shorter { IfOk result (λ x. length x.1.now < length tokens.now) }
@@ -378,7 +403,12 @@ fn post_tail(alloc: Global, left: u32, tokens: &[Token]) -> Result<(PostTail, &[
 
 #[cycle(exprs)]
 #[tactic(auto, unfolding(Rattle::pt_grammar::specs::ExprReading::index_at))]
-fn read_index(alloc: Global, left: u32, at: Place, tokens: &[Token]) -> Result<(PostTail, &[Token]), Stop<'_>>
+fn read_index(
+    alloc: Global,
+    left: u32,
+    at: Place,
+    tokens: &[Token],
+) -> Result<(PostTail, &[Token]), Stop<'_>>
     requires some { 0 < left }
     requires few { left ≤ 64 }
     ensures gives { Gives (λ x. (plain_post x.0, x.1.now)) result (index_at (inner left) at tokens.now) }
@@ -428,7 +458,13 @@ fn read_atom(alloc: Global, left: u32, tokens: &[Token]) -> Result<(Expr, &[Toke
 /// Reads the arguments of a function.
 #[cycle(exprs)]
 #[tactic(auto, unfolding(Rattle::pt_grammar::specs::ExprReading::call_at))]
-fn read_call(alloc: Global, left: u32, at: Place, func: Func, tokens: &[Token]) -> Result<(Expr, &[Token]), Stop<'_>>
+fn read_call(
+    alloc: Global,
+    left: u32,
+    at: Place,
+    func: Func,
+    tokens: &[Token],
+) -> Result<(Expr, &[Token]), Stop<'_>>
     requires few { left ≤ 64 }
     ensures gives { Gives (λ x. (plain_expr x.0, x.1.now)) result (call_at left (inner left) at func tokens.now) }
     ensures shorter { IfOk result (λ x. length x.1.now < length tokens.now) }
@@ -445,7 +481,13 @@ fn read_call(alloc: Global, left: u32, at: Place, func: Func, tokens: &[Token]) 
 /// Reads what stands behind `all`, `any` or `each`.
 #[cycle(exprs)]
 #[tactic(auto, unfolding(Rattle::pt_grammar::specs::ExprReading::bind_at))]
-fn read_bind(alloc: Global, left: u32, at: Place, binder: Binder, tokens: &[Token]) -> Result<(Expr, &[Token]), Stop<'_>>
+fn read_bind(
+    alloc: Global,
+    left: u32,
+    at: Place,
+    binder: Binder,
+    tokens: &[Token],
+) -> Result<(Expr, &[Token]), Stop<'_>>
     requires few { left ≤ 64 }
     ensures gives { Gives (λ x. (plain_expr x.0, x.1.now)) result (bind_at left (inner left) at binder tokens.now) }
     ensures shorter { IfOk result (λ x. length x.1.now < length tokens.now) }
@@ -458,13 +500,21 @@ fn read_bind(alloc: Global, left: u32, at: Place, binder: Binder, tokens: &[Toke
     let (body, last) = inner_expr(alloc, left, next)?;
     let behind = take(Sign::CloseParen, last)?;
     let list = Box::new(alloc, list)?;
-    Ok((Expr::bind(at, binder, given, list, Box::new(alloc, body)?), behind))
+    Ok((
+        Expr::bind(at, binder, given, list, Box::new(alloc, body)?),
+        behind,
+    ))
 }
 
 /// Reads one expression to the end of the brackets, or a tuple.
 #[cycle(exprs)]
 #[tactic(auto, unfolding(Rattle::pt_grammar::specs::ExprReading::round_at))]
-fn read_round(alloc: Global, left: u32, at: Place, tokens: &[Token]) -> Result<(Expr, &[Token]), Stop<'_>>
+fn read_round(
+    alloc: Global,
+    left: u32,
+    at: Place,
+    tokens: &[Token],
+) -> Result<(Expr, &[Token]), Stop<'_>>
     requires some { 0 < left }
     requires few { left ≤ 64 }
     ensures gives { Gives (λ x. (plain_expr x.0, x.1.now)) result (round_at (inner left) at tokens.now) }
@@ -485,7 +535,12 @@ fn read_round(alloc: Global, left: u32, at: Place, tokens: &[Token]) -> Result<(
 /// Reads the members of a list.
 #[cycle(exprs)]
 #[tactic(auto, unfolding(Rattle::pt_grammar::specs::ExprReading::square_at))]
-fn read_square(alloc: Global, left: u32, at: Place, tokens: &[Token]) -> Result<(Expr, &[Token]), Stop<'_>>
+fn read_square(
+    alloc: Global,
+    left: u32,
+    at: Place,
+    tokens: &[Token],
+) -> Result<(Expr, &[Token]), Stop<'_>>
     requires some { 0 < left }
     requires few { left ≤ 64 }
     ensures gives { Gives (λ x. (plain_expr x.0, x.1.now)) result (square_at (inner left) at tokens.now) }
@@ -501,7 +556,12 @@ fn read_square(alloc: Global, left: u32, at: Place, tokens: &[Token]) -> Result<
 
 /// Reads further arguments, each behind a comma.
 #[cycle(exprs)]
-fn more_args(alloc: Global, left: u32, parts: Exprs, tokens: &[Token]) -> Result<(Exprs, &[Token]), Stop<'_>>
+fn more_args(
+    alloc: Global,
+    left: u32,
+    parts: Exprs,
+    tokens: &[Token],
+) -> Result<(Exprs, &[Token]), Stop<'_>>
     requires some { 0 < left }
     requires few { left ≤ 64 }
     ensures gives { Gives (λ x. (map plain_expr x.0, x.1.now)) result (with_front (map plain_expr parts) (args_at (inner left).expr tokens.now)) }
@@ -530,7 +590,13 @@ fn next_arg(alloc: Global, left: u32, tokens: &[Token]) -> Result<(Expr, &[Token
 
 /// Reads further parts of a tuple or list, each behind a comma, where there is room for so many.
 #[cycle(exprs)]
-fn more_parts(alloc: Global, left: u32, room: u32, parts: Exprs, tokens: &[Token]) -> Result<(Exprs, &[Token]), Stop<'_>>
+fn more_parts(
+    alloc: Global,
+    left: u32,
+    room: u32,
+    parts: Exprs,
+    tokens: &[Token],
+) -> Result<(Exprs, &[Token]), Stop<'_>>
     requires some { 0 < left }
     requires few { left ≤ 64 }
     ensures gives { Gives (λ x. (map plain_expr x.0, x.1.now)) result (with_front (map plain_expr parts) (more_exprs_at (inner left).expr room tokens.now)) }
@@ -549,7 +615,12 @@ fn more_parts(alloc: Global, left: u32, room: u32, parts: Exprs, tokens: &[Token
 }
 
 #[cycle(exprs)]
-fn next_part(alloc: Global, left: u32, room: u32, tokens: &[Token]) -> Result<(Expr, &[Token]), Stop<'_>>
+fn next_part(
+    alloc: Global,
+    left: u32,
+    room: u32,
+    tokens: &[Token],
+) -> Result<(Expr, &[Token]), Stop<'_>>
     requires some { 0 < left }
     requires few { left ≤ 64 }
     ensures gives { Gives (λ x. (plain_expr x.0, x.1.now)) result (more_expr_at (inner left).expr room tokens.now) }
@@ -582,7 +653,11 @@ fn refuse_expr(alloc: Global, left: u32, tokens: &[Token]) -> Result<(Expr, &[To
 
 /// Reads an expression one level deeper.
 #[cycle(exprs)]
-pub(crate) fn inner_expr(alloc: Global, left: u32, tokens: &[Token]) -> Result<(Expr, &[Token]), Stop<'_>>
+pub(crate) fn inner_expr(
+    alloc: Global,
+    left: u32,
+    tokens: &[Token],
+) -> Result<(Expr, &[Token]), Stop<'_>>
     requires some { 0 < left }
     requires few { left ≤ 64 }
     ensures gives { Gives (λ x. (plain_expr x.0, x.1.now)) result ((inner left).expr tokens.now) }
@@ -671,7 +746,10 @@ fn starts_product_tail(tokens: &[Token]) -> bool
     ensures { result ≡ goes_on is_product tokens.now }
 {
     match tokens.split_first() {
-        Some((token, _)) => matches!(&token.kind, Kind::Mark(Mark::Star | Mark::Slash | Mark::Percent)),
+        Some((token, _)) => matches!(
+            &token.kind,
+            Kind::Mark(Mark::Star | Mark::Slash | Mark::Percent)
+        ),
         None => false,
     }
 }

@@ -159,7 +159,12 @@ fn read_check(at: Place, tokens: &[Token]) -> Result<(Item, &[Token]), Stop<'_>>
 }
 
 #[tactic(auto, unfolding(Rattle::pt_grammar::specs::SuiteReading::property_at))]
-fn read_property(alloc: Global, at: Place, next: u32, tokens: &[Token]) -> Result<(Item, u32, &[Token]), Stop<'_>>
+fn read_property(
+    alloc: Global,
+    at: Place,
+    next: u32,
+    tokens: &[Token],
+) -> Result<(Item, u32, &[Token]), Stop<'_>>
     requires small { next + 1 + length tokens.now < 2 ^ 31 }
     ensures gives { Gives (λ x. (plain_item x.0, x.2.now)) result (property_at next at tokens.now) }
     ensures shorter { IfOk result (λ x. length x.2.now < length tokens.now) }
@@ -181,7 +186,12 @@ fn read_property(alloc: Global, at: Place, next: u32, tokens: &[Token]) -> Resul
 }
 
 #[tactic(auto, unfolding(Rattle::pt_grammar::specs::SuiteReading::machine_item_at))]
-fn read_machine_item(alloc: Global, at: Place, next: u32, tokens: &[Token]) -> Result<(Item, u32, &[Token]), Stop<'_>>
+fn read_machine_item(
+    alloc: Global,
+    at: Place,
+    next: u32,
+    tokens: &[Token],
+) -> Result<(Item, u32, &[Token]), Stop<'_>>
     requires small { next + 1 + length tokens.now < 2 ^ 31 }
     ensures gives { Gives (λ x. (plain_item x.0, x.2.now)) result (machine_item_at next at tokens.now) }
     ensures shorter { IfOk result (λ x. length x.2.now < length tokens.now) }
@@ -234,7 +244,12 @@ fn starts_item(tokens: &[Token]) -> bool
     }
 }
 
-fn next_item(alloc: Global, room: u32, next: u32, tokens: &[Token]) -> Result<(Item, u32, &[Token]), Stop<'_>>
+fn next_item(
+    alloc: Global,
+    room: u32,
+    next: u32,
+    tokens: &[Token],
+) -> Result<(Item, u32, &[Token]), Stop<'_>>
     requires small { next + length tokens.now < 2 ^ 31 }
     ensures gives { Gives (λ x. (plain_item x.0, x.2.now)) result (room_at (item_at next) room tokens.now) }
     ensures shorter { IfOk result (λ x. length x.2.now < length tokens.now) }
@@ -248,7 +263,11 @@ fn next_item(alloc: Global, room: u32, next: u32, tokens: &[Token]) -> Result<(I
 }
 
 /// The fault of a part too many.
-fn refuse_item(alloc: Global, next: u32, tokens: &[Token]) -> Result<(Item, u32, &[Token]), Stop<'_>>
+fn refuse_item(
+    alloc: Global,
+    next: u32,
+    tokens: &[Token],
+) -> Result<(Item, u32, &[Token]), Stop<'_>>
     requires small { next + length tokens.now < 2 ^ 31 }
     ensures gives { Gives (λ x. (plain_item x.0, x.2.now)) result (refused_at (item_at next) tokens.now) }
     ensures shorter { IfOk result (λ x. length x.2.now < length tokens.now) }

@@ -15,7 +15,10 @@ use crate::stmts::{assigned, ended, read_rule_stmts};
 use crate::stop::{Stop, sort_here};
 use crate::tokens::name;
 use crate::types::read_type;
-use pt_ast::{BundleDecl, BundleDecls, Expr, Ident, InvariantDecl, InvariantDecls, Machine, RuleDecl, RuleDecls, StateDecl, StateDecls};
+use pt_ast::{
+    BundleDecl, BundleDecls, Expr, Ident, InvariantDecl, InvariantDecls, Machine, RuleDecl,
+    RuleDecls, StateDecl, StateDecls,
+};
 use pt_choice::Seq;
 use pt_grammar::Sort;
 use pt_lex::Token;
@@ -24,7 +27,11 @@ use std::alloc::Global;
 const MOST_PARTS: u32 = 64;
 
 /// Reads the states of a machine, of which there are 64 at most.
-fn read_states(alloc: Global, left: u32, tokens: &[Token]) -> Result<(StateDecls, &[Token]), Stop<'_>>
+fn read_states(
+    alloc: Global,
+    left: u32,
+    tokens: &[Token],
+) -> Result<(StateDecls, &[Token]), Stop<'_>>
     requires few { left ≤ 64 }
     ensures gives { Gives (λ x. (map plain_state x.0, x.1.now)) result (declared_at (state_at left) is_state tokens.now) }
     ensures shorter { IfOk result (λ x. length x.1.now ≤ length tokens.now) }
@@ -41,7 +48,12 @@ fn read_states(alloc: Global, left: u32, tokens: &[Token]) -> Result<(StateDecls
     Ok((parts, rest))
 }
 
-fn next_state(alloc: Global, left: u32, room: u32, tokens: &[Token]) -> Result<(StateDecl, &[Token]), Stop<'_>>
+fn next_state(
+    alloc: Global,
+    left: u32,
+    room: u32,
+    tokens: &[Token],
+) -> Result<(StateDecl, &[Token]), Stop<'_>>
     requires few { left ≤ 64 }
     ensures gives { Gives (λ x. (plain_state x.0, x.1.now)) result (room_at (state_at left) room tokens.now) }
     ensures shorter { IfOk result (λ x. length x.1.now < length tokens.now) }
@@ -53,7 +65,11 @@ fn next_state(alloc: Global, left: u32, room: u32, tokens: &[Token]) -> Result<(
 }
 
 /// The fault of a part too many.
-fn refuse_state(alloc: Global, left: u32, tokens: &[Token]) -> Result<(StateDecl, &[Token]), Stop<'_>>
+fn refuse_state(
+    alloc: Global,
+    left: u32,
+    tokens: &[Token],
+) -> Result<(StateDecl, &[Token]), Stop<'_>>
     requires few { left ≤ 64 }
     ensures gives { Gives (λ x. (plain_state x.0, x.1.now)) result (refused_at (state_at left) tokens.now) }
     ensures shorter { IfOk result (λ x. length x.1.now < length tokens.now) }
@@ -80,7 +96,11 @@ fn read_state(alloc: Global, left: u32, tokens: &[Token]) -> Result<(StateDecl, 
 }
 
 /// Reads the bundles of a machine, of which there are 64 at most.
-fn read_bundles(alloc: Global, left: u32, tokens: &[Token]) -> Result<(BundleDecls, &[Token]), Stop<'_>>
+fn read_bundles(
+    alloc: Global,
+    left: u32,
+    tokens: &[Token],
+) -> Result<(BundleDecls, &[Token]), Stop<'_>>
     requires few { left ≤ 64 }
     ensures gives { Gives (λ x. (map plain_bundle x.0, x.1.now)) result (declared_at (bundle_at left) is_bundle tokens.now) }
     ensures shorter { IfOk result (λ x. length x.1.now ≤ length tokens.now) }
@@ -97,7 +117,12 @@ fn read_bundles(alloc: Global, left: u32, tokens: &[Token]) -> Result<(BundleDec
     Ok((parts, rest))
 }
 
-fn next_bundle(alloc: Global, left: u32, room: u32, tokens: &[Token]) -> Result<(BundleDecl, &[Token]), Stop<'_>>
+fn next_bundle(
+    alloc: Global,
+    left: u32,
+    room: u32,
+    tokens: &[Token],
+) -> Result<(BundleDecl, &[Token]), Stop<'_>>
     requires few { left ≤ 64 }
     ensures gives { Gives (λ x. (plain_bundle x.0, x.1.now)) result (room_at (bundle_at left) room tokens.now) }
     ensures shorter { IfOk result (λ x. length x.1.now < length tokens.now) }
@@ -109,7 +134,11 @@ fn next_bundle(alloc: Global, left: u32, room: u32, tokens: &[Token]) -> Result<
 }
 
 /// The fault of a part too many.
-fn refuse_bundle(alloc: Global, left: u32, tokens: &[Token]) -> Result<(BundleDecl, &[Token]), Stop<'_>>
+fn refuse_bundle(
+    alloc: Global,
+    left: u32,
+    tokens: &[Token],
+) -> Result<(BundleDecl, &[Token]), Stop<'_>>
     requires few { left ≤ 64 }
     ensures gives { Gives (λ x. (plain_bundle x.0, x.1.now)) result (refused_at (bundle_at left) tokens.now) }
     ensures shorter { IfOk result (λ x. length x.1.now < length tokens.now) }
@@ -125,7 +154,11 @@ fn refuse_bundle(alloc: Global, left: u32, tokens: &[Token]) -> Result<(BundleDe
 }
 
 #[tactic(auto, unfolding(Rattle::pt_grammar::specs::SuiteReading::bundle_at))]
-fn read_bundle(alloc: Global, left: u32, tokens: &[Token]) -> Result<(BundleDecl, &[Token]), Stop<'_>>
+fn read_bundle(
+    alloc: Global,
+    left: u32,
+    tokens: &[Token],
+) -> Result<(BundleDecl, &[Token]), Stop<'_>>
     requires few { left ≤ 64 }
     ensures gives { Gives (λ x. (plain_bundle x.0, x.1.now)) result (bundle_at left tokens.now) }
     ensures shorter { IfOk result (λ x. length x.1.now < length tokens.now) }
@@ -139,7 +172,11 @@ fn read_bundle(alloc: Global, left: u32, tokens: &[Token]) -> Result<(BundleDecl
 }
 
 /// Reads the invariants of a machine, of which there are 64 at most.
-fn read_invariants(alloc: Global, left: u32, tokens: &[Token]) -> Result<(InvariantDecls, &[Token]), Stop<'_>>
+fn read_invariants(
+    alloc: Global,
+    left: u32,
+    tokens: &[Token],
+) -> Result<(InvariantDecls, &[Token]), Stop<'_>>
     requires few { left ≤ 64 }
     ensures gives { Gives (λ x. (map plain_invariant x.0, x.1.now)) result (declared_at (invariant_at left) is_invariant tokens.now) }
     ensures shorter { IfOk result (λ x. length x.1.now ≤ length tokens.now) }
@@ -156,7 +193,12 @@ fn read_invariants(alloc: Global, left: u32, tokens: &[Token]) -> Result<(Invari
     Ok((parts, rest))
 }
 
-fn next_invariant(alloc: Global, left: u32, room: u32, tokens: &[Token]) -> Result<(InvariantDecl, &[Token]), Stop<'_>>
+fn next_invariant(
+    alloc: Global,
+    left: u32,
+    room: u32,
+    tokens: &[Token],
+) -> Result<(InvariantDecl, &[Token]), Stop<'_>>
     requires few { left ≤ 64 }
     ensures gives { Gives (λ x. (plain_invariant x.0, x.1.now)) result (room_at (invariant_at left) room tokens.now) }
     ensures shorter { IfOk result (λ x. length x.1.now < length tokens.now) }
@@ -168,7 +210,11 @@ fn next_invariant(alloc: Global, left: u32, room: u32, tokens: &[Token]) -> Resu
 }
 
 /// The fault of a part too many.
-fn refuse_invariant(alloc: Global, left: u32, tokens: &[Token]) -> Result<(InvariantDecl, &[Token]), Stop<'_>>
+fn refuse_invariant(
+    alloc: Global,
+    left: u32,
+    tokens: &[Token],
+) -> Result<(InvariantDecl, &[Token]), Stop<'_>>
     requires few { left ≤ 64 }
     ensures gives { Gives (λ x. (plain_invariant x.0, x.1.now)) result (refused_at (invariant_at left) tokens.now) }
     ensures shorter { IfOk result (λ x. length x.1.now < length tokens.now) }
@@ -184,7 +230,11 @@ fn refuse_invariant(alloc: Global, left: u32, tokens: &[Token]) -> Result<(Invar
 }
 
 #[tactic(auto, unfolding(Rattle::pt_grammar::specs::SuiteReading::invariant_at))]
-fn read_invariant(alloc: Global, left: u32, tokens: &[Token]) -> Result<(InvariantDecl, &[Token]), Stop<'_>>
+fn read_invariant(
+    alloc: Global,
+    left: u32,
+    tokens: &[Token],
+) -> Result<(InvariantDecl, &[Token]), Stop<'_>>
     requires few { left ≤ 64 }
     ensures gives { Gives (λ x. (plain_invariant x.0, x.1.now)) result (invariant_at left tokens.now) }
     ensures shorter { IfOk result (λ x. length x.1.now < length tokens.now) }
@@ -195,7 +245,11 @@ fn read_invariant(alloc: Global, left: u32, tokens: &[Token]) -> Result<(Invaria
 }
 
 /// Reads when a rule may run, if it says so.
-fn read_when(alloc: Global, left: u32, tokens: &[Token]) -> Result<(Option<Expr>, &[Token]), Stop<'_>>
+fn read_when(
+    alloc: Global,
+    left: u32,
+    tokens: &[Token],
+) -> Result<(Option<Expr>, &[Token]), Stop<'_>>
     requires few { left ≤ 64 }
     ensures gives { Gives (λ x. (option_map plain_expr x.0, x.1.now)) result (maybe_at (when_at left) is_when tokens.now) }
     ensures shorter { IfOk result (λ x. length x.1.now ≤ length tokens.now) }
@@ -222,7 +276,12 @@ fn read_into(tokens: &[Token]) -> Result<(Option<Ident>, &[Token]), Stop<'_>>
 }
 
 #[tactic(auto, unfolding(Rattle::pt_grammar::specs::SuiteReading::rule_at))]
-fn read_rule(alloc: Global, left: u32, next: u32, tokens: &[Token]) -> Result<(RuleDecl, u32, &[Token]), Stop<'_>>
+fn read_rule(
+    alloc: Global,
+    left: u32,
+    next: u32,
+    tokens: &[Token],
+) -> Result<(RuleDecl, u32, &[Token]), Stop<'_>>
     requires few { left ≤ 64 }
     requires small { next + length tokens.now < 2 ^ 31 }
     ensures gives { Gives (λ x. (plain_rule x.0, x.2.now)) result (rule_at left next tokens.now) }
@@ -247,7 +306,13 @@ fn read_rule(alloc: Global, left: u32, next: u32, tokens: &[Token]) -> Result<(R
     Ok((rule, last, behind))
 }
 
-fn next_rule(alloc: Global, left: u32, room: u32, next: u32, tokens: &[Token]) -> Result<(RuleDecl, u32, &[Token]), Stop<'_>>
+fn next_rule(
+    alloc: Global,
+    left: u32,
+    room: u32,
+    next: u32,
+    tokens: &[Token],
+) -> Result<(RuleDecl, u32, &[Token]), Stop<'_>>
     requires few { left ≤ 64 }
     requires small { next + length tokens.now < 2 ^ 31 }
     ensures gives { Gives (λ x. (plain_rule x.0, x.2.now)) result (room_at (rule_at left next) room tokens.now) }
@@ -262,7 +327,12 @@ fn next_rule(alloc: Global, left: u32, room: u32, next: u32, tokens: &[Token]) -
 }
 
 /// The fault of a part too many.
-fn refuse_rule(alloc: Global, left: u32, next: u32, tokens: &[Token]) -> Result<(RuleDecl, u32, &[Token]), Stop<'_>>
+fn refuse_rule(
+    alloc: Global,
+    left: u32,
+    next: u32,
+    tokens: &[Token],
+) -> Result<(RuleDecl, u32, &[Token]), Stop<'_>>
     requires few { left ≤ 64 }
     requires small { next + length tokens.now < 2 ^ 31 }
     ensures gives { Gives (λ x. (plain_rule x.0, x.2.now)) result (refused_at (rule_at left next) tokens.now) }
@@ -281,7 +351,12 @@ fn refuse_rule(alloc: Global, left: u32, next: u32, tokens: &[Token]) -> Result<
 }
 
 /// Reads the rules of a machine, of which there are 64 at most.
-fn read_rules(alloc: Global, left: u32, next: u32, tokens: &[Token]) -> Result<(RuleDecls, u32, &[Token]), Stop<'_>>
+fn read_rules(
+    alloc: Global,
+    left: u32,
+    next: u32,
+    tokens: &[Token],
+) -> Result<(RuleDecls, u32, &[Token]), Stop<'_>>
     requires few { left ≤ 64 }
     requires small { next + length tokens.now < 2 ^ 31 }
     ensures gives { Gives (λ x. (map plain_rule x.0, x.2.now)) result (rules_at left next tokens.now) }
@@ -305,7 +380,12 @@ fn read_rules(alloc: Global, left: u32, next: u32, tokens: &[Token]) -> Result<(
 
 /// Reads what a machine has in its braces.
 #[tactic(auto, unfolding(Rattle::pt_grammar::specs::SuiteReading::machine_at))]
-pub(crate) fn read_machine(alloc: Global, left: u32, next: u32, tokens: &[Token]) -> Result<(Machine, u32, &[Token]), Stop<'_>>
+pub(crate) fn read_machine(
+    alloc: Global,
+    left: u32,
+    next: u32,
+    tokens: &[Token],
+) -> Result<(Machine, u32, &[Token]), Stop<'_>>
     requires few { left ≤ 64 }
     requires small { next + 1 + length tokens.now < 2 ^ 31 }
     ensures gives { Gives (λ x. (plain_machine x.0, x.2.now)) result (machine_at left next tokens.now) }

@@ -21,7 +21,11 @@ use std::alloc::Global;
 
 /// Reads a name and an expression behind it, to the semicolon.
 #[tactic(auto, unfolding(Rattle::pt_grammar::specs::SuiteReading::assigned_at))]
-pub(crate) fn assigned(alloc: Global, left: u32, tokens: &[Token]) -> Result<((Ident, Expr), &[Token]), Stop<'_>>
+pub(crate) fn assigned(
+    alloc: Global,
+    left: u32,
+    tokens: &[Token],
+) -> Result<((Ident, Expr), &[Token]), Stop<'_>>
     requires few { left ≤ 64 }
     ensures gives { Gives (λ x. ((x.0.0, plain_expr x.0.1), x.1.now)) result (assigned_at left tokens.now) }
     ensures shorter { IfOk result (λ x. length x.1.now < length tokens.now) }
@@ -35,7 +39,11 @@ pub(crate) fn assigned(alloc: Global, left: u32, tokens: &[Token]) -> Result<((I
 
 /// Reads an expression, to the semicolon.
 #[tactic(auto, unfolding(Rattle::pt_grammar::specs::SuiteReading::ended_at))]
-pub(crate) fn ended(alloc: Global, left: u32, tokens: &[Token]) -> Result<(Expr, &[Token]), Stop<'_>>
+pub(crate) fn ended(
+    alloc: Global,
+    left: u32,
+    tokens: &[Token],
+) -> Result<(Expr, &[Token]), Stop<'_>>
     requires few { left ≤ 64 }
     ensures gives { Gives (λ x. (plain_expr x.0, x.1.now)) result (ended_at left tokens.now) }
     ensures shorter { IfOk result (λ x. length x.1.now < length tokens.now) }
@@ -47,7 +55,13 @@ pub(crate) fn ended(alloc: Global, left: u32, tokens: &[Token]) -> Result<(Expr,
 
 /// Reads what stands behind `draw`.
 #[tactic(auto, unfolding(Rattle::pt_grammar::specs::SuiteReading::draw_at))]
-fn read_draw(alloc: Global, left: u32, at: Place, next: u32, tokens: &[Token]) -> Result<(Stmt, u32, &[Token]), Stop<'_>>
+fn read_draw(
+    alloc: Global,
+    left: u32,
+    at: Place,
+    next: u32,
+    tokens: &[Token],
+) -> Result<(Stmt, u32, &[Token]), Stop<'_>>
     requires few { left ≤ 64 }
     requires small { next + 1 + length tokens.now < 2 ^ 31 }
     ensures gives { Gives (λ x. (plain_stmt x.0, x.2.now)) result (draw_at left next at tokens.now) }
@@ -86,7 +100,13 @@ fn read_pick(at: Place, next: u32, tokens: &[Token]) -> Result<(Stmt, u32, &[Tok
 
 /// Reads a statement of a rule or of a property.
 #[tactic(auto, unfolding(Rattle::pt_grammar::specs::SuiteReading::stmt_on))]
-fn read_stmt(alloc: Global, left: u32, in_rule: bool, next: u32, tokens: &[Token]) -> Result<(Stmt, u32, &[Token]), Stop<'_>>
+fn read_stmt(
+    alloc: Global,
+    left: u32,
+    in_rule: bool,
+    next: u32,
+    tokens: &[Token],
+) -> Result<(Stmt, u32, &[Token]), Stop<'_>>
     requires few { left ≤ 64 }
     requires small { next + length tokens.now < 2 ^ 31 }
     ensures gives { Gives (λ x. (plain_stmt x.0, x.2.now)) result (stmt_at left in_rule next tokens.now) }
@@ -147,7 +167,13 @@ fn starts_stmt(in_rule: bool, tokens: &[Token]) -> bool
 }
 
 /// Reads statements, as long as one begins.
-pub(crate) fn read_stmts(alloc: Global, left: u32, in_rule: bool, next: u32, tokens: &[Token]) -> Result<(Stmts, u32, &[Token]), Stop<'_>>
+pub(crate) fn read_stmts(
+    alloc: Global,
+    left: u32,
+    in_rule: bool,
+    next: u32,
+    tokens: &[Token],
+) -> Result<(Stmts, u32, &[Token]), Stop<'_>>
     requires few { left ≤ 64 }
     requires small { next + length tokens.now < 2 ^ 31 }
     ensures gives { Gives (λ x. (map plain_stmt x.0, x.2.now)) result (stmts_at left in_rule next tokens.now) }
@@ -169,7 +195,12 @@ pub(crate) fn read_stmts(alloc: Global, left: u32, in_rule: bool, next: u32, tok
 
 /// Reads the statements of a rule, with its `give`.
 #[tactic(auto, unfolding(Rattle::pt_grammar::specs::SuiteReading::rule_stmts_at))]
-pub(crate) fn read_rule_stmts(alloc: Global, left: u32, next: u32, tokens: &[Token]) -> Result<(Stmts, u32, &[Token]), Stop<'_>>
+pub(crate) fn read_rule_stmts(
+    alloc: Global,
+    left: u32,
+    next: u32,
+    tokens: &[Token],
+) -> Result<(Stmts, u32, &[Token]), Stop<'_>>
     requires few { left ≤ 64 }
     requires small { next + length tokens.now < 2 ^ 31 }
     ensures gives { Gives (λ x. (map plain_stmt x.0, x.2.now)) result (rule_stmts_at left next tokens.now) }

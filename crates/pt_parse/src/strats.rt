@@ -24,7 +24,12 @@ use std::alloc::Global;
 /// Reads a strategy whose nodes are numbered from `next` on, where so many levels are left; and the number behind them.
 #[cycle(strats)]
 #[tactic(auto, unfolding(Rattle::pt_grammar::specs::StratReading::strat_on))]
-pub(crate) fn read_strat(alloc: Global, left: u32, next: u32, tokens: &[Token]) -> Result<(Strat, u32, &[Token]), Stop<'_>>
+pub(crate) fn read_strat(
+    alloc: Global,
+    left: u32,
+    next: u32,
+    tokens: &[Token],
+) -> Result<(Strat, u32, &[Token]), Stop<'_>>
     requires few { left ≤ 64 }
     requires small { next + length tokens.now < 2 ^ 31 }
     ensures gives { Gives (λ x. (plain_strat x.0, x.2.now)) result (strat_at left next tokens.now) }
@@ -55,7 +60,13 @@ pub(crate) fn read_strat(alloc: Global, left: u32, next: u32, tokens: &[Token]) 
 
 #[cycle(strats)]
 #[tactic(auto, unfolding(Rattle::pt_grammar::specs::StratReading::bounded_at))]
-fn ints(alloc: Global, left: u32, at: Place, next: u32, tokens: &[Token]) -> Result<(Strat, u32, &[Token]), Stop<'_>>
+fn ints(
+    alloc: Global,
+    left: u32,
+    at: Place,
+    next: u32,
+    tokens: &[Token],
+) -> Result<(Strat, u32, &[Token]), Stop<'_>>
     requires few { left ≤ 64 }
     requires small { next + 1 + length tokens.now < 2 ^ 31 }
     ensures gives { Gives (λ x. (plain_strat x.0, x.2.now)) result (bounded_at left (strat_below left) (inner left).expr at next (Ints_of at next) tokens.now) }
@@ -70,7 +81,13 @@ fn ints(alloc: Global, left: u32, at: Place, next: u32, tokens: &[Token]) -> Res
 
 #[cycle(strats)]
 #[tactic(auto, unfolding(Rattle::pt_grammar::specs::StratReading::bounded_at))]
-fn blobs(alloc: Global, left: u32, at: Place, next: u32, tokens: &[Token]) -> Result<(Strat, u32, &[Token]), Stop<'_>>
+fn blobs(
+    alloc: Global,
+    left: u32,
+    at: Place,
+    next: u32,
+    tokens: &[Token],
+) -> Result<(Strat, u32, &[Token]), Stop<'_>>
     requires few { left ≤ 64 }
     requires small { next + 1 + length tokens.now < 2 ^ 31 }
     ensures gives { Gives (λ x. (plain_strat x.0, x.2.now)) result (bounded_at left (strat_below left) (inner left).expr at next (Blobs_of at next) tokens.now) }
@@ -85,7 +102,13 @@ fn blobs(alloc: Global, left: u32, at: Place, next: u32, tokens: &[Token]) -> Re
 
 #[cycle(strats)]
 #[tactic(auto, unfolding(Rattle::pt_grammar::specs::StratReading::bools_at))]
-fn bools(alloc: Global, left: u32, at: Place, next: u32, tokens: &[Token]) -> Result<(Strat, u32, &[Token]), Stop<'_>>
+fn bools(
+    alloc: Global,
+    left: u32,
+    at: Place,
+    next: u32,
+    tokens: &[Token],
+) -> Result<(Strat, u32, &[Token]), Stop<'_>>
     requires few { left ≤ 64 }
     requires small { next + 1 + length tokens.now < 2 ^ 31 }
     ensures gives { Gives (λ x. (plain_strat x.0, x.2.now)) result (bools_at left (strat_below left) (inner left).expr at next tokens.now) }
@@ -100,7 +123,13 @@ fn bools(alloc: Global, left: u32, at: Place, next: u32, tokens: &[Token]) -> Re
 
 #[cycle(strats)]
 #[tactic(auto, unfolding(Rattle::pt_grammar::specs::StratReading::texts_at))]
-fn texts(alloc: Global, left: u32, at: Place, next: u32, tokens: &[Token]) -> Result<(Strat, u32, &[Token]), Stop<'_>>
+fn texts(
+    alloc: Global,
+    left: u32,
+    at: Place,
+    next: u32,
+    tokens: &[Token],
+) -> Result<(Strat, u32, &[Token]), Stop<'_>>
     requires few { left ≤ 64 }
     requires small { next + 1 + length tokens.now < 2 ^ 31 }
     ensures gives { Gives (λ x. (plain_strat x.0, x.2.now)) result (texts_at left (strat_below left) (inner left).expr at next tokens.now) }
@@ -117,7 +146,13 @@ fn texts(alloc: Global, left: u32, at: Place, next: u32, tokens: &[Token]) -> Re
 
 #[cycle(strats)]
 #[tactic(auto, unfolding(Rattle::pt_grammar::specs::StratReading::sampled_at))]
-fn sampled_from(alloc: Global, left: u32, at: Place, next: u32, tokens: &[Token]) -> Result<(Strat, u32, &[Token]), Stop<'_>>
+fn sampled_from(
+    alloc: Global,
+    left: u32,
+    at: Place,
+    next: u32,
+    tokens: &[Token],
+) -> Result<(Strat, u32, &[Token]), Stop<'_>>
     requires few { left ≤ 64 }
     requires small { next + 1 + length tokens.now < 2 ^ 31 }
     ensures gives { Gives (λ x. (plain_strat x.0, x.2.now)) result (sampled_at left (strat_below left) (inner left).expr at next tokens.now) }
@@ -133,7 +168,13 @@ fn sampled_from(alloc: Global, left: u32, at: Place, next: u32, tokens: &[Token]
 
 #[cycle(strats)]
 #[tactic(auto, unfolding(Rattle::pt_grammar::specs::StratReading::lists_at))]
-fn lists(alloc: Global, left: u32, at: Place, next: u32, tokens: &[Token]) -> Result<(Strat, u32, &[Token]), Stop<'_>>
+fn lists(
+    alloc: Global,
+    left: u32,
+    at: Place,
+    next: u32,
+    tokens: &[Token],
+) -> Result<(Strat, u32, &[Token]), Stop<'_>>
     requires few { left ≤ 64 }
     requires small { next + 1 + length tokens.now < 2 ^ 31 }
     ensures gives { Gives (λ x. (plain_strat x.0, x.2.now)) result (lists_at left (strat_below left) (inner left).expr at next tokens.now) }
@@ -151,7 +192,13 @@ fn lists(alloc: Global, left: u32, at: Place, next: u32, tokens: &[Token]) -> Re
 
 #[cycle(strats)]
 #[tactic(auto, unfolding(Rattle::pt_grammar::specs::StratReading::tuples_at))]
-fn tuples(alloc: Global, left: u32, at: Place, next: u32, tokens: &[Token]) -> Result<(Strat, u32, &[Token]), Stop<'_>>
+fn tuples(
+    alloc: Global,
+    left: u32,
+    at: Place,
+    next: u32,
+    tokens: &[Token],
+) -> Result<(Strat, u32, &[Token]), Stop<'_>>
     requires few { left ≤ 64 }
     requires small { next + 1 + length tokens.now < 2 ^ 31 }
     ensures gives { Gives (λ x. (plain_strat x.0, x.2.now)) result (tuples_at left (strat_below left) (inner left).expr at next tokens.now) }
@@ -173,7 +220,13 @@ fn tuples(alloc: Global, left: u32, at: Place, next: u32, tokens: &[Token]) -> R
 
 #[cycle(strats)]
 #[tactic(auto, unfolding(Rattle::pt_grammar::specs::StratReading::one_of_at))]
-fn one_of(alloc: Global, left: u32, at: Place, next: u32, tokens: &[Token]) -> Result<(Strat, u32, &[Token]), Stop<'_>>
+fn one_of(
+    alloc: Global,
+    left: u32,
+    at: Place,
+    next: u32,
+    tokens: &[Token],
+) -> Result<(Strat, u32, &[Token]), Stop<'_>>
     requires few { left ≤ 64 }
     requires small { next + 1 + length tokens.now < 2 ^ 31 }
     ensures gives { Gives (λ x. (plain_strat x.0, x.2.now)) result (one_of_at left (strat_below left) (inner left).expr at next tokens.now) }
@@ -192,7 +245,13 @@ fn one_of(alloc: Global, left: u32, at: Place, next: u32, tokens: &[Token]) -> R
 
 #[cycle(strats)]
 #[tactic(auto, unfolding(Rattle::pt_grammar::specs::StratReading::applied_at))]
-fn map(alloc: Global, left: u32, at: Place, next: u32, tokens: &[Token]) -> Result<(Strat, u32, &[Token]), Stop<'_>>
+fn map(
+    alloc: Global,
+    left: u32,
+    at: Place,
+    next: u32,
+    tokens: &[Token],
+) -> Result<(Strat, u32, &[Token]), Stop<'_>>
     requires few { left ≤ 64 }
     requires small { next + 1 + length tokens.now < 2 ^ 31 }
     ensures gives { Gives (λ x. (plain_strat x.0, x.2.now)) result (applied_at left (strat_below left) (inner left).expr at next (Map_of at next) tokens.now) }
@@ -213,7 +272,13 @@ fn map(alloc: Global, left: u32, at: Place, next: u32, tokens: &[Token]) -> Resu
 
 #[cycle(strats)]
 #[tactic(auto, unfolding(Rattle::pt_grammar::specs::StratReading::applied_at))]
-fn filter(alloc: Global, left: u32, at: Place, next: u32, tokens: &[Token]) -> Result<(Strat, u32, &[Token]), Stop<'_>>
+fn filter(
+    alloc: Global,
+    left: u32,
+    at: Place,
+    next: u32,
+    tokens: &[Token],
+) -> Result<(Strat, u32, &[Token]), Stop<'_>>
     requires few { left ≤ 64 }
     requires small { next + 1 + length tokens.now < 2 ^ 31 }
     ensures gives { Gives (λ x. (plain_strat x.0, x.2.now)) result (applied_at left (strat_below left) (inner left).expr at next (Filter_of at next) tokens.now) }
@@ -234,7 +299,13 @@ fn filter(alloc: Global, left: u32, at: Place, next: u32, tokens: &[Token]) -> R
 
 #[cycle(strats)]
 #[tactic(auto, unfolding(Rattle::pt_grammar::specs::StratReading::flat_map_at))]
-fn flat_map(alloc: Global, left: u32, at: Place, next: u32, tokens: &[Token]) -> Result<(Strat, u32, &[Token]), Stop<'_>>
+fn flat_map(
+    alloc: Global,
+    left: u32,
+    at: Place,
+    next: u32,
+    tokens: &[Token],
+) -> Result<(Strat, u32, &[Token]), Stop<'_>>
     requires few { left ≤ 64 }
     requires small { next + 1 + length tokens.now < 2 ^ 31 }
     ensures gives { Gives (λ x. (plain_strat x.0, x.2.now)) result (flat_map_at left (strat_below left) (inner left).expr at next tokens.now) }
@@ -256,7 +327,13 @@ fn flat_map(alloc: Global, left: u32, at: Place, next: u32, tokens: &[Token]) ->
 
 #[cycle(strats)]
 #[tactic(auto, unfolding(Rattle::pt_grammar::specs::StratReading::recursive_at))]
-fn recursive(alloc: Global, left: u32, at: Place, next: u32, tokens: &[Token]) -> Result<(Strat, u32, &[Token]), Stop<'_>>
+fn recursive(
+    alloc: Global,
+    left: u32,
+    at: Place,
+    next: u32,
+    tokens: &[Token],
+) -> Result<(Strat, u32, &[Token]), Stop<'_>>
     requires few { left ≤ 64 }
     requires small { next + 1 + length tokens.now < 2 ^ 31 }
     ensures gives { Gives (λ x. (plain_strat x.0, x.2.now)) result (recursive_at left (strat_below left) (inner left).expr at next tokens.now) }
@@ -273,7 +350,11 @@ fn recursive(alloc: Global, left: u32, at: Place, next: u32, tokens: &[Token]) -
     let behind = take(Sign::CloseParen, rest)?;
     let first = Box::new(alloc, first)?;
     let second = Box::new(alloc, second)?;
-    Ok((Strat::recursive(at, next, depth, first, second), end, behind))
+    Ok((
+        Strat::recursive(at, next, depth, first, second),
+        end,
+        behind,
+    ))
 }
 
 /// Reads two expressions to the end of the brackets.
@@ -293,7 +374,12 @@ fn bounds(alloc: Global, left: u32, tokens: &[Token]) -> Result<((Expr, Expr), &
 
 /// Reads a strategy one level deeper.
 #[cycle(strats)]
-fn inner_strat(alloc: Global, left: u32, next: u32, tokens: &[Token]) -> Result<(Strat, u32, &[Token]), Stop<'_>>
+fn inner_strat(
+    alloc: Global,
+    left: u32,
+    next: u32,
+    tokens: &[Token],
+) -> Result<(Strat, u32, &[Token]), Stop<'_>>
     requires some { 0 < left }
     requires few { left ≤ 64 }
     requires small { next + length tokens.now < 2 ^ 31 }
@@ -307,7 +393,14 @@ fn inner_strat(alloc: Global, left: u32, next: u32, tokens: &[Token]) -> Result<
 
 /// Reads further strategies, each behind a comma, where there is room for so many.
 #[cycle(strats)]
-fn more_strats(alloc: Global, left: u32, room: u32, parts: Strats, next: u32, tokens: &[Token]) -> Result<(Strats, u32, &[Token]), Stop<'_>>
+fn more_strats(
+    alloc: Global,
+    left: u32,
+    room: u32,
+    parts: Strats,
+    next: u32,
+    tokens: &[Token],
+) -> Result<(Strats, u32, &[Token]), Stop<'_>>
     requires some { 0 < left }
     requires few { left ≤ 64 }
     requires small { next + length tokens.now < 2 ^ 31 }
@@ -332,7 +425,13 @@ fn more_strats(alloc: Global, left: u32, room: u32, parts: Strats, next: u32, to
 
 /// Reads a comma and a strategy, where there is room for so many.
 #[cycle(strats)]
-fn more_strat(alloc: Global, left: u32, room: u32, next: u32, tokens: &[Token]) -> Result<(Strat, u32, &[Token]), Stop<'_>>
+fn more_strat(
+    alloc: Global,
+    left: u32,
+    room: u32,
+    next: u32,
+    tokens: &[Token],
+) -> Result<(Strat, u32, &[Token]), Stop<'_>>
     requires some { 0 < left }
     requires few { left ≤ 64 }
     requires small { next + length tokens.now < 2 ^ 31 }
@@ -350,7 +449,12 @@ fn more_strat(alloc: Global, left: u32, room: u32, next: u32, tokens: &[Token]) 
 
 /// The fault of a part too many.
 #[cycle(strats)]
-fn refuse_strat(alloc: Global, left: u32, next: u32, tokens: &[Token]) -> Result<(Strat, u32, &[Token]), Stop<'_>>
+fn refuse_strat(
+    alloc: Global,
+    left: u32,
+    next: u32,
+    tokens: &[Token],
+) -> Result<(Strat, u32, &[Token]), Stop<'_>>
     requires some { 0 < left }
     requires few { left ≤ 64 }
     requires small { next + length tokens.now < 2 ^ 31 }

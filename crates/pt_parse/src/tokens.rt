@@ -89,7 +89,13 @@ pub(crate) fn alphabet(tokens: &[Token]) -> Result<(Alphabet, &[Token]), Stop<'_
                 return Err(Stop::At(Sort::OutOfRange, tokens));
             }
             let chars = chars.copy()?;
-            Ok((Alphabet { at: first.at, chars }, rest))
+            Ok((
+                Alphabet {
+                    at: first.at,
+                    chars,
+                },
+                rest,
+            ))
         }
         Kind::LongText => Err(Stop::At(Sort::OutOfRange, tokens)),
         _ => Err(Stop::At(Sort::Syntax, tokens)),

@@ -17,7 +17,11 @@ use std::alloc::Global;
 /// Reads a type, where so many levels are left.
 #[cycle(types)]
 #[tactic(auto, unfolding(Rattle::pt_grammar::specs::TypeReading::type_on))]
-pub(crate) fn read_type(alloc: Global, left: u32, tokens: &[Token]) -> Result<(Ty, &[Token]), Stop<'_>>
+pub(crate) fn read_type(
+    alloc: Global,
+    left: u32,
+    tokens: &[Token],
+) -> Result<(Ty, &[Token]), Stop<'_>>
     requires few { left ≤ 64 }
     ensures gives { Gives (λ x. (plain_type x.0, x.1.now)) result (type_at left tokens.now) }
     ensures shorter { IfOk result (λ x. length x.1.now < length tokens.now) }
@@ -84,7 +88,12 @@ fn inner_type(alloc: Global, left: u32, tokens: &[Token]) -> Result<(Ty, &[Token
 
 /// Reads the types of a tuple behind its first two, each behind a comma.
 #[cycle(types)]
-fn more_types(alloc: Global, left: u32, parts: Tys, tokens: &[Token]) -> Result<(Tys, &[Token]), Stop<'_>>
+fn more_types(
+    alloc: Global,
+    left: u32,
+    parts: Tys,
+    tokens: &[Token],
+) -> Result<(Tys, &[Token]), Stop<'_>>
     requires some { 0 < left }
     requires few { left ≤ 64 }
     ensures gives { Gives (λ x. (map plain_type x.0, x.1.now)) result (with_front (map plain_type parts) (more_types_at (type_below left) 6 tokens.now)) }
@@ -104,7 +113,12 @@ fn more_types(alloc: Global, left: u32, parts: Tys, tokens: &[Token]) -> Result<
 
 /// Reads a comma and a type, where there is room for so many.
 #[cycle(types)]
-fn more_type(alloc: Global, left: u32, room: u32, tokens: &[Token]) -> Result<(Ty, &[Token]), Stop<'_>>
+fn more_type(
+    alloc: Global,
+    left: u32,
+    room: u32,
+    tokens: &[Token],
+) -> Result<(Ty, &[Token]), Stop<'_>>
     requires some { 0 < left }
     requires few { left ≤ 64 }
     ensures gives { Gives (λ x. (plain_type x.0, x.1.now)) result (more_type_at (type_below left) room tokens.now) }
