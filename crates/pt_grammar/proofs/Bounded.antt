@@ -30,6 +30,7 @@ use Rattle.pt_grammar.proofs.Types.{type_some}
 use Rattle.pt_grammar.proofs.ExprShapes.{expr_some}
 use Rattle.pt_grammar.proofs.Strats.{strat_some}
 use Rattle.pt_grammar.proofs.Forms.{at_some}
+use Rattle.pt_grammar.proofs.Suites.{item_some}
 
 abbrev Good_token : Token → Type 0
 Good_token token = IsReal token × FitsKind token.kind
@@ -650,17 +651,12 @@ body_bounded from place name settings (Machine_of machine) ts good h =
     let all = machine_bounded 64 from machine c.1.0 c.1.1 c.1.2 in
     (settings_kept true settings c.0, all.0, all.1)
 
-body_some : (from : ℕ) (place : Place) (name : Ident) (settings : Settings) (body : BodyTree) → ItemOf sort.OutOfRange from place name settings body [] → ⊥
-body_some from place name settings Check_of h = at_some _ _ _ h
-body_some from place name settings (Property_of stmts) h = at_some _ _ _ h
-body_some from place name settings (Machine_of machine) h = at_some _ _ _ h
-
 items_bounded : (room from : ℕ) (items : List ItemTree) (ts : List Token) → AllGood ts → AreItems sort.OutOfRange room from items ts
     → (length items ≤ room) × AllByRecursion IsBoundedItem items × (most_levels (λ item. body_levels item.body) items ≤ 64)
 items_bounded room from [] ts good h = (omega arith, tt, omega arith)
 items_bounded room from (first ∷ others) ts good h =
     let a = split _ _ ts good h in
-    let lt = a.0.2.1 tt (stands a.0.0 (λ nil. body_some from first.at first.name first.settings first.body (subst (IsItem sort.OutOfRange from first) nil a.0.2.0)) a.0.1) in
+    let lt = a.0.2.1 tt (stands a.0.0 (λ nil. item_some sort.OutOfRange from first (subst (IsItem sort.OutOfRange from first) nil a.0.2.0)) a.0.1) in
     let one = body_bounded from first.at first.name first.settings first.body a.0.0 a.0.1 a.0.2.0 in
     let more = items_bounded (room - 1) _ others a.1.0 a.1.1 a.1.2 in
     (omega (arith, lt, more.0), ((one.0, one.1), more.1), max-le one.2 more.2)

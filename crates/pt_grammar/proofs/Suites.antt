@@ -176,7 +176,7 @@ body_some s from place name settings Check_of h = at_some _ _ _ h
 body_some s from place name settings (Property_of stmts) h = at_some _ _ _ h
 body_some s from place name settings (Machine_of machine) h = at_some _ _ _ h
 
-item_some : (s : Sort) (from : ℕ) (v : ItemTree) → IsItem s from v [] → ⊥
+pub item_some : (s : Sort) (from : ℕ) (v : ItemTree) → IsItem s from v [] → ⊥
 item_some s from v h = body_some s from v.at v.name v.settings v.body h
 
 body_begins : (s : Sort) (from : ℕ) (place : Place) (name : Ident) (settings : Settings) (body : BodyTree) (t : Token) (x : List Token) → ItemOf s from place name settings body (t ∷ x) → begins_item t.kind ≡ true
