@@ -14,6 +14,7 @@ use Rattle.pt_ast.specs.Trees.{ExprTree, Num, Text_of, Bytes_of, Flag, Var, If_o
 use Rattle.pt_ast.specs.Bounds.{IsBetween, IsBoundedType, AreBoundedTypes, IsBoundedExpr, AreBoundedExprs, AreBoundedTails, AreBoundedPosts, IsBoundedStrat, AreBoundedStrats, IsBoundedStmt, IsPlainStmt, gives, GivesLast, IsBoundedRule, IsBoundedMachine, IsBoundedBody, IsBounded, IsBoundedItem}
 use Rattle.pt_ast.specs.Bounds.{AreSettings as Kept}
 use Rattle.pt_ast.specs.Levels.{type_levels, types_levels, expr_levels, exprs_levels, tails_levels, posts_levels, strat_levels, strats_levels, stmt_levels, most_levels, rule_levels, machine_levels, body_levels, suite_levels}
+use Rattle.pt_ast.specs.Numbers.{stmt_numbers, stmts_numbers, body_numbers}
 use Rattle.pt_lex.specs.declared.token.Token.{Token}
 use Rattle.pt_lex.specs.declared.token.Kind.{Kind}
 use Rattle.pt_lex.specs.declared.token.Kind.TheVariants as kind
@@ -24,7 +25,7 @@ use Rattle.pt_grammar.specs.Forms.{◌⨾◌, One, OneAt, Opens, NestsAt, Fittin
 use Rattle.pt_grammar.specs.TypeGrammar.{IsType, MoreTypes}
 use Rattle.pt_grammar.specs.ExprGrammar.{IsExpr, Joined, MoreExprs, AreTails, ArePosts, IsPost, Operator}
 use Rattle.pt_grammar.specs.StratGrammar.{IsStrat, MoreStrats, IsAlphabet, nodes}
-use Rattle.pt_grammar.specs.SuiteGrammar.{IsStmt, AreStmts, IsGive, AreRuleStmts, IsState, IsBundle, IsInvariant, IsWhen, IsInto, IsRule, Declared, AreRules, IsMachine, Setting, Runs_of, Shrink_of, Steps_of, Allowed, without, IsSetting, with_setting, settled, defaults, AreSettings, ItemOf, IsItem, AreItems, SuiteText}
+use Rattle.pt_grammar.specs.SuiteGrammar.{IsStmt, AreStmts, IsGive, AreRuleStmts, IsState, IsBundle, IsInvariant, IsWhen, IsInto, IsRule, Declared, AreRules, IsMachine, Setting, Runs_of, Shrink_of, Steps_of, Allowed, all_settings, without, IsSetting, with_setting, settled, defaults, AreSettings, ItemOf, IsItem, AreItems, SuiteText}
 use Rattle.pt_grammar.specs.Laws.{FitsKind, KeepsBounds}
 use Rattle.pt_grammar.proofs.Types.{type_some}
 use Rattle.pt_grammar.proofs.ExprShapes.{expr_some}
@@ -466,7 +467,7 @@ stmts_bounded left in_rule from [] ts good h = (tt, omega arith)
 stmts_bounded left in_rule from (first ∷ others) ts good h =
     let a = split _ _ ts good h in
     let one = stmt_bounded left in_rule from first a.0.0 a.0.1 a.0.2 in
-    let more = stmts_bounded left in_rule _ others a.1.0 a.1.1 a.1.2 in
+    let more = stmts_bounded left in_rule (from + length (stmt_numbers first)) others a.1.0 a.1.1 a.1.2 in
     ((one.0, more.0), max-le one.1 more.1)
 
 -- a property has plain statements alone
@@ -481,7 +482,7 @@ stmt_plain left from (Give_of at value) ts h = h
 
 stmts_plain : (left from : ℕ) (stmts : List StmtTree) (ts : List Token) → AreStmts sort.OutOfRange left false from stmts ts → AllByRecursion IsPlainStmt stmts
 stmts_plain left from [] ts h = tt
-stmts_plain left from (first ∷ others) ts (x, y, p, q, e) = (stmt_plain left from first x p, stmts_plain left _ others y q)
+stmts_plain left from (first ∷ others) ts (x, y, p, q, e) = (stmt_plain left from first x p, stmts_plain left (from + length (stmt_numbers first)) others y q)
 
 -- ---- rules
 
@@ -510,7 +511,7 @@ gives_last left from [] (a ∷ b ∷ others) ts us h k = absurd (give_two left a
 gives_last left from (a ∷ []) [] ts us h k = tt
 gives_last left from (a ∷ []) (b ∷ []) ts us (x, y, p, q, e) k = (no_give left true from a x p, tt)
 gives_last left from (a ∷ []) (b ∷ c ∷ others) ts us h k = absurd (give_two left b c others us k)
-gives_last left from (a ∷ b ∷ own) given ts us (x, y, p, q, e) k = (no_give left true from a x p, gives_last left _ (b ∷ own) given y us q k)
+gives_last left from (a ∷ b ∷ own) given ts us (x, y, p, q, e) k = (no_give left true from a x p, gives_last left (from + length (stmt_numbers a)) (b ∷ own) given y us q k)
 
 give_bounded : (left : ℕ) (given : List StmtTree) (ts : List Token) → AllGood ts → IsGive sort.OutOfRange left given ts → AllByRecursion IsBoundedStmt given × (most_levels stmt_levels given ≤ left)
 give_bounded left [] ts good h = (tt, omega arith)
@@ -596,7 +597,7 @@ rules_bounded left room from (first ∷ others) ts good h =
     let a = split _ _ ts good h in
     let lt = a.0.2.1 tt (stands a.0.0 (λ nil. at_some _ _ _ (subst (IsRule sort.OutOfRange left from first) nil a.0.2.0)) a.0.1) in
     let one = rule_bounded left from first a.0.0 a.0.1 a.0.2.0 in
-    let more = rules_bounded left (room - 1) _ others a.1.0 a.1.1 a.1.2 in
+    let more = rules_bounded left (room - 1) (from + length (stmts_numbers first.stmts)) others a.1.0 a.1.1 a.1.2 in
     (omega (arith, lt, more.0), (one.0, more.1), max-le one.1 more.2)
 
 machine_bounded : (left from : ℕ) (machine : MachineTree) (ts : List Token) → AllGood ts → IsMachine sort.OutOfRange left from machine ts → IsBoundedMachine machine × (1 + machine_levels machine ≤ left)
@@ -629,7 +630,7 @@ settled_kept allowed (first ∷ others) settings ts good h k =
 
 settings_kept : (steps : Bool) (settings : Settings) → Good (AreSettings sort.OutOfRange steps settings) → Kept settings
 settings_kept steps settings (ts, good, (list, same, h)) =
-    subst Kept (sym same) (settled_kept (record { runs = true; shrink = true; steps = steps }) list defaults ts good h ((omega arith, omega arith), omega arith, (omega arith, omega arith)))
+    subst Kept (sym same) (settled_kept (all_settings steps) list defaults ts good h ((omega arith, omega arith), omega arith, (omega arith, omega arith)))
 
 body_bounded : (from : ℕ) (place : Place) (name : Ident) (settings : Settings) (body : BodyTree) (ts : List Token) → AllGood ts → ItemOf sort.OutOfRange from place name settings body ts
     → Kept settings × IsBoundedBody body × (body_levels body ≤ 64)
@@ -658,7 +659,7 @@ items_bounded room from (first ∷ others) ts good h =
     let a = split _ _ ts good h in
     let lt = a.0.2.1 tt (stands a.0.0 (λ nil. item_some sort.OutOfRange from first (subst (IsItem sort.OutOfRange from first) nil a.0.2.0)) a.0.1) in
     let one = body_bounded from first.at first.name first.settings first.body a.0.0 a.0.1 a.0.2.0 in
-    let more = items_bounded (room - 1) _ others a.1.0 a.1.1 a.1.2 in
+    let more = items_bounded (room - 1) (from + length (body_numbers first.body)) others a.1.0 a.1.1 a.1.2 in
     (omega (arith, lt, more.0), ((one.0, one.1), more.1), max-le one.2 more.2)
 
 all_good : (tokens : List Token) → AllByRecursion IsReal tokens → AllByRecursion (λ token. FitsKind token.kind) tokens → AllGood tokens

@@ -44,7 +44,7 @@ cut A B ts (x, y, p, q, e) = (x, y, p, q, ap length e ∙ length-append x y)
 
 -- what stands behind a first token
 behind : (k : Kind) (at : Place) (B : List Token → Type 0) (ts : List Token) → (OneAt k at ⨾ B) ts → (y : List Token) × B y × (length ts ≡ 1 + length y)
-behind k at B ts (x, y, (t, same, stands, only), q, e) = (y, q, ap length (e ∙ ap (λ w. w ++ y) only))
+behind k at B ts (x, y, (t, same, stands, only), q, e) = (y, q, omega (arith, ap length (e ∙ ap (λ w. w ++ y) only)))
 
 mutual
   strat_counted : (s : Sort) (left from : ℕ) (tree : StratTree) (ts : List Token) → IsStrat s left from tree ts → Counted from (strat_numbers tree) (length ts)

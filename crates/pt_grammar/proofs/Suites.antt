@@ -13,7 +13,7 @@ use Rattle.pt_grammar.specs.declared.sort.Sort.{Sort}
 use Rattle.pt_grammar.specs.declared.sort.Sort.TheVariants as sort
 use Rattle.pt_grammar.specs.Tokens.{open_brace, close_brace}
 use Rattle.pt_grammar.specs.Forms.{◌⨾◌, One, OneAt, Opens, IsName, Limited, Part}
-use Rattle.pt_grammar.specs.SuiteGrammar.{Setting, Runs_of, Shrink_of, Steps_of, Allowed, without, IsSetting, settled, defaults, AreSettings, AreStmts, IsMachine, ItemOf, IsItem, AreItems}
+use Rattle.pt_grammar.specs.SuiteGrammar.{Setting, Runs_of, Shrink_of, Steps_of, Allowed, all_settings, without, IsSetting, settled, defaults, AreSettings, AreStmts, IsMachine, ItemOf, IsItem, AreItems}
 use Rattle.pt_grammar.specs.Faults.{Family}
 use Rattle.pt_grammar.specs.Reading.{Fault, at, Reading, ◌>>=◌, one_at, open_at, name_at, limited_at, is_open_brace, is_close_brace, all_at, room_at}
 use Rattle.pt_grammar.specs.SuiteReading.{begins_stmt, next_stmt, stmts_at, machine_at, begins_setting, setting_on, setting_at, settings_at, check_at, property_at, machine_item_at, begins_item, item_on, item_at, next_item, items_at}
@@ -91,9 +91,6 @@ module _ (allowed : Allowed) (t : Token) (rest : List Token) (real : AllReal (t 
   setting_kind (kind.Word word.Shrink) is e = shrink_case allowed.shrink is refl e
   setting_kind (kind.Word word.Steps) is e = steps_case allowed.steps is refl e
   setting_kind other is e = absurd cc
-
-abbrev all_settings : Bool → Allowed
-all_settings steps = record { runs = true; shrink = true; steps = steps }
 
 abbrev pub Settled : Bool → Family Settings
 Settled steps s = AreSettings s steps

@@ -30,7 +30,8 @@ flag_kind false = kind.Word word.False
 abbrev mutual
   -- an expression of this level or a tighter one, where this many levels of nesting are left
   pub IsExpr : Sort → ℕ → ℕ → ExprTree → List Token → Type 0
-  IsExpr upto left level (Num at number) tokens = Number upto at number tokens ⊎ ((level ≤ 7) × (OneAt (kind.Minus true) at ⨾ Magnitude upto number) tokens)
+  IsExpr upto left level (Num at number) tokens =
+      Number upto at number tokens ⊎ ((level ≤ 7) × (OneAt (kind.Minus true) at ⨾ Magnitude upto number) tokens)
   IsExpr upto left level (Text_of at chars) tokens = Fitting upto (kind.Text chars) kind.LongText at tokens
   IsExpr upto left level (Bytes_of at bytes) tokens = Fitting upto (kind.Bytes bytes) kind.LongBytes at tokens
   IsExpr upto left level (Flag at truth) tokens = OneAt (flag_kind truth) at tokens
@@ -58,7 +59,8 @@ abbrev mutual
       (level ≤ 8) × StartsAt at tokens × (IsExpr upto left 9 base ⨾ ArePosts upto left (more_post post others)) tokens
   IsExpr upto left level (Post_of at base no_post) tokens = ⊥
   IsExpr upto left level (Call_of at func (more_expr first others)) tokens =
-      (OneAt (kind.Word (word.Func func)) at ⨾ Opens upto left opening ⨾ IsExpr upto (left - 1) 0 first ⨾ Joined upto (left - 1) comma 0 others ⨾ One close) tokens
+      (OneAt (kind.Word (word.Func func)) at ⨾ Opens upto left opening ⨾ IsExpr upto (left - 1) 0 first ⨾ Joined upto (left - 1) comma 0 others
+      ⨾ One close) tokens
   IsExpr upto left level (Call_of at func no_expr) tokens = ⊥
   IsExpr upto left level (Bind_of at binder given list body) tokens =
       (OneAt (kind.Word (word.Binder binder)) at ⨾ Opens upto left opening ⨾ IsName upto given ⨾ One comma ⨾ IsExpr upto (left - 1) 0 list ⨾ One comma
@@ -74,12 +76,14 @@ abbrev mutual
   -- operands, each behind a token of this kind
   pub Joined : Sort → ℕ → Kind → ℕ → ExprTrees → List Token → Type 0
   Joined upto left which level no_expr tokens = tokens ≡ []
-  Joined upto left which level (more_expr first others) tokens = ((One which ⨾ IsExpr upto left level first) ⨾ Joined upto left which level others) tokens
+  Joined upto left which level (more_expr first others) tokens =
+      ((One which ⨾ IsExpr upto left level first) ⨾ Joined upto left which level others) tokens
 
   -- expressions, each behind a comma, where there is room for this many
   pub MoreExprs : Sort → ℕ → ℕ → ExprTrees → List Token → Type 0
   MoreExprs upto left room no_expr tokens = tokens ≡ []
-  MoreExprs upto left room (more_expr first others) tokens = ((One comma ⨾ Part upto room (IsExpr upto left 0 first)) ⨾ MoreExprs upto left (room - 1) others) tokens
+  MoreExprs upto left room (more_expr first others) tokens =
+      ((One comma ⨾ Part upto room (IsExpr upto left 0 first)) ⨾ MoreExprs upto left (room - 1) others) tokens
 
   -- operators of a chain, each with what stands on its right
   pub AreTails : Sort → ℕ → (Kind → Option Op) → ℕ → TailTrees → List Token → Type 0

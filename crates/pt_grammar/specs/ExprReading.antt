@@ -39,7 +39,8 @@ alone given part = tt
 abbrev pub row_at : {X : Type 0} → (List Token → Reading X) → (Kind → Bool) → List Token → Reading (List X)
 row_at part begins tokens = all_at (λ given. part) (λ given. begins) alone tt tokens
 
-abbrev pub chain_at : {X : Type 0} → (List Token → Reading ExprTree) → (List Token → Reading X) → (Kind → Bool) → (Place → ExprTree → List X → ExprTree) → List Token → Reading ExprTree
+abbrev pub chain_at : {X : Type 0} → (List Token → Reading ExprTree) → (List Token → Reading X) → (Kind → Bool)
+    → (Place → ExprTree → List X → ExprTree) → List Token → Reading ExprTree
 chain_at operand part begins tree tokens = do
   first ← operand tokens
   others ← row_at part begins first.1
@@ -257,7 +258,12 @@ expr_step left inside [] = Err (at sort.Syntax [])
 expr_step left inside (token ∷ rest) = expr_on left inside token.at (token ∷ rest) rest token.kind
 
 unfoldable pub inner : ℕ → Readers
-inner zero = record { expr = λ tokens. Err (at sort.Syntax tokens); nots = λ tokens. Err (at sort.Syntax tokens); unary = λ tokens. Err (at sort.Syntax tokens) }
+inner zero = record {
+  expr = λ tokens. Err (at sort.Syntax tokens);
+  nots = λ tokens. Err (at sort.Syntax tokens);
+  unary =
+      λ tokens. Err (at sort.Syntax tokens);
+}
 inner (suc left) = record { expr = expr_step left (inner left); nots = nots_at left (inner left); unary = unary_at left (inner left) }
 
 abbrev pub expr_at : ℕ → List Token → Reading ExprTree

@@ -44,7 +44,8 @@ Opens upto left which tokens = (token : Token) × (token.kind ≡ which) × (tok
 
 -- the same, which stands there
 abbrev pub NestsAt : Sort → ℕ → Kind → Place → List Token → Type 0
-NestsAt upto left which at tokens = (token : Token) × (token.kind ≡ which) × (token.at ≡ at) × (tokens ≡ token ∷ []) × (MindsNesting upto → IsReal token → 0 < left)
+NestsAt upto left which at tokens = (token : Token) × (token.kind ≡ which) × (token.at ≡ at) × (tokens ≡ token ∷ [])
+    × (MindsNesting upto → IsReal token → 0 < left)
 
 -- one token of this kind, which stands there, or one that is too long for it
 abbrev pub Fitting : Sort → Kind → Kind → Place → List Token → Type 0
@@ -57,12 +58,14 @@ IsName upto given tokens = Fitting upto (kind.Name given.name) kind.LongName giv
 -- a number that is an integer
 abbrev pub Number : Sort → Place → ℤ → List Token → Type 0
 Number upto at value tokens =
-    (token : Token) × (n : ℕ) × (token.kind ≡ kind.Number n) × (token.at ≡ at) × (tokens ≡ token ∷ []) × (value ≡ pos n) × (MindsAll upto → IsReal token → n < 2 ^ 63)
+    (token : Token) × (n : ℕ) × (token.kind ≡ kind.Number n) × (token.at ≡ at) × (tokens ≡ token ∷ []) × (value ≡ pos n)
+    × (MindsAll upto → IsReal token → n < 2 ^ 63)
 
 -- a number that is an integer behind a minus sign
 abbrev pub Magnitude : Sort → ℤ → List Token → Type 0
 Magnitude upto value tokens =
-    (token : Token) × (n : ℕ) × (token.kind ≡ kind.Number n) × (tokens ≡ token ∷ []) × (value ≡ neg_ℤ (pos n)) × (MindsAll upto → IsReal token → n ≤ 2 ^ 63)
+    (token : Token) × (n : ℕ) × (token.kind ≡ kind.Number n) × (tokens ≡ token ∷ []) × (value ≡ neg_ℤ (pos n))
+    × (MindsAll upto → IsReal token → n ≤ 2 ^ 63)
 
 -- a number within bounds
 abbrev pub Limited : Sort → ℕ → ℕ → ℕ → List Token → Type 0

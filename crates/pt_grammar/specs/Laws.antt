@@ -23,15 +23,18 @@ OneReading = (tokens : List Token) (suite other : SuiteTree) → IsText tokens �
 
 -- a text has a reading or a first fault
 abbrev pub ReadsOrFaults : Type 0
-ReadsOrFaults = (tokens : List Token) → IsText tokens → ((suite : SuiteTree) × ReadsAs tokens suite) ⊎ ((which : Sort) × (token : Token) × HasFirstFault SuiteText tokens which token)
+ReadsOrFaults = (tokens : List Token) → IsText tokens → ((suite : SuiteTree) × ReadsAs tokens suite) ⊎ ((which : Sort) × (token : Token)
+    × HasFirstFault SuiteText tokens which token)
 
 -- and not both
 abbrev pub NotBoth : Type 0
-NotBoth = (tokens : List Token) (suite : SuiteTree) (which : Sort) (token : Token) → IsText tokens → ReadsAs tokens suite → HasFirstFault SuiteText tokens which token → ⊥
+NotBoth = (tokens : List Token) (suite : SuiteTree) (which : Sort) (token : Token) → IsText tokens → ReadsAs tokens suite
+    → HasFirstFault SuiteText tokens which token → ⊥
 
 -- a text has one first fault at most
 abbrev pub OneFault : Type 0
-OneFault = (tokens : List Token) (which other : Sort) (token second : Token) → IsText tokens → HasFirstFault SuiteText tokens which token → HasFirstFault SuiteText tokens other second → (token ≡ second) × (which ≡ other)
+OneFault = (tokens : List Token) (which other : Sort) (token second : Token) → IsText tokens → HasFirstFault SuiteText tokens which token
+    → HasFirstFault SuiteText tokens other second → (token ≡ second) × (which ≡ other)
 
 -- a text or bytes of a token keep the bounds
 abbrev pub FitsKind : Kind → Type 0
@@ -41,7 +44,8 @@ FitsKind other = Unit {0}
 
 -- the suite that was read keeps the counts and bounds, and its nodes are numbered in the order of the text
 abbrev pub KeepsBounds : Type 0
-KeepsBounds = (tokens : List Token) (suite : SuiteTree) → IsText tokens → AllByRecursion (λ token. FitsKind token.kind) tokens → ReadsAs tokens suite → IsBounded suite
+KeepsBounds = (tokens : List Token) (suite : SuiteTree) → IsText tokens → AllByRecursion (λ token. FitsKind token.kind) tokens
+    → ReadsAs tokens suite → IsBounded suite
 
 abbrev pub Numbers : Type 0
 Numbers = (tokens : List Token) (suite : SuiteTree) → length tokens ≤ 1048577 → ReadsAs tokens suite → IsNumbered suite

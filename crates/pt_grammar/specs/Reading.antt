@@ -177,13 +177,15 @@ abbrev pub many_then : {A : Type 0} → (List Token → Reading A) → (A → Li
 many_then part others tokens false = Ok ([], tokens)
 many_then part others tokens true = part tokens >>= λ first. others first.0 first.1 >>= λ more. Ok (first.0 ∷ more.0, more.1)
 
-unfoldable pub many_at : {A Given : Type 0} → (Given → List Token → Reading A) → (Given → Kind → Bool) → (Given → A → Given) → ℕ → Given → List Token → Reading (List A)
+unfoldable pub many_at : {A Given : Type 0} → (Given → List Token → Reading A) → (Given → Kind → Bool) → (Given → A → Given) → ℕ → Given
+    → List Token → Reading (List A)
 many_at part begins leaves zero given tokens = Ok ([], tokens)
 many_at part begins leaves (suc turns) given tokens =
     many_then (part given) (λ a rest. many_at part begins leaves turns (leaves given a) rest) tokens (goes_on (begins given) tokens)
 
 -- there are turns enough for all
-abbrev pub all_at : {A Given : Type 0} → (Given → List Token → Reading A) → (Given → Kind → Bool) → (Given → A → Given) → Given → List Token → Reading (List A)
+abbrev pub all_at : {A Given : Type 0} → (Given → List Token → Reading A) → (Given → Kind → Bool) → (Given → A → Given) → Given → List Token
+    → Reading (List A)
 all_at part begins leaves given tokens = many_at part begins leaves (length tokens) given tokens
 
 -- what was read before, and what is still read

@@ -15,7 +15,8 @@ use Rattle.pt_grammar.specs.ExprGrammar.{IsExpr}
 abbrev pub IsAlphabet : Sort → Alphabet → List Token → Type 0
 IsAlphabet upto alphabet tokens =
     (token : Token)
-    × (((token.kind ≡ kind.Text alphabet.chars) × (MindsAll upto → IsReal token → 0 < length alphabet.chars)) ⊎ ((token.kind ≡ kind.LongText) × (MindsAll upto → IsReal token → ⊥)))
+    × (((token.kind ≡ kind.Text alphabet.chars) × (MindsAll upto → IsReal token → 0 < length alphabet.chars))
+    ⊎ ((token.kind ≡ kind.LongText) × (MindsAll upto → IsReal token → ⊥)))
     × (token.at ≡ alphabet.at) × (tokens ≡ token ∷ [])
 
 -- how many nodes of a strategy are numbered
@@ -26,13 +27,16 @@ abbrev mutual
   -- a strategy whose nodes are numbered from there on, where this many levels are left
   pub IsStrat : Sort → ℕ → ℕ → StratTree → List Token → Type 0
   IsStrat upto left from (Ints_of at num lo hi) tokens =
-      (num ≡ from) × (OneAt (kind.Word word.Ints) at ⨾ Opens upto left opening ⨾ IsExpr upto (left - 1) 0 lo ⨾ One comma ⨾ IsExpr upto (left - 1) 0 hi ⨾ One close) tokens
+      (num ≡ from) × (OneAt (kind.Word word.Ints) at ⨾ Opens upto left opening ⨾ IsExpr upto (left - 1) 0 lo ⨾ One comma
+      ⨾ IsExpr upto (left - 1) 0 hi ⨾ One close) tokens
   IsStrat upto left from (Bools_of at num) tokens = (num ≡ from) × (OneAt (kind.Word word.Bools) at ⨾ Opens upto left opening ⨾ One close) tokens
   IsStrat upto left from (Texts_of at num alphabet lo hi) tokens =
-      (num ≡ from) × (OneAt (kind.Word word.Texts) at ⨾ Opens upto left opening ⨾ IsAlphabet upto alphabet ⨾ One comma ⨾ IsExpr upto (left - 1) 0 lo ⨾ One comma
+      (num ≡ from) × (OneAt (kind.Word word.Texts) at ⨾ Opens upto left opening ⨾ IsAlphabet upto alphabet ⨾ One comma
+      ⨾ IsExpr upto (left - 1) 0 lo ⨾ One comma
       ⨾ IsExpr upto (left - 1) 0 hi ⨾ One close) tokens
   IsStrat upto left from (Blobs_of at num lo hi) tokens =
-      (num ≡ from) × (OneAt (kind.Word word.Blobs) at ⨾ Opens upto left opening ⨾ IsExpr upto (left - 1) 0 lo ⨾ One comma ⨾ IsExpr upto (left - 1) 0 hi ⨾ One close) tokens
+      (num ≡ from) × (OneAt (kind.Word word.Blobs) at ⨾ Opens upto left opening ⨾ IsExpr upto (left - 1) 0 lo ⨾ One comma
+      ⨾ IsExpr upto (left - 1) 0 hi ⨾ One close) tokens
   IsStrat upto left from (Sampled_of at num list) tokens =
       (num ≡ from) × (OneAt (kind.Word word.SampledFrom) at ⨾ Opens upto left opening ⨾ IsExpr upto (left - 1) 0 list ⨾ One close) tokens
   IsStrat upto left from (Lists_of at num element lo hi) tokens =
@@ -40,23 +44,28 @@ abbrev mutual
       ⨾ IsExpr upto (left - 1) 0 lo ⨾ One comma ⨾ IsExpr upto (left - 1) 0 hi ⨾ One close) tokens
   IsStrat upto left from (Tuples_of at num (more_strat first (more_strat second others))) tokens =
       (num ≡ from) × (OneAt (kind.Word word.Tuples) at ⨾ Opens upto left opening ⨾ IsStrat upto (left - 1) (from + 1) first ⨾ One comma
-      ⨾ IsStrat upto (left - 1) (from + 1 + nodes first) second ⨾ MoreStrats upto (left - 1) 6 (from + 1 + nodes first + nodes second) others ⨾ One close) tokens
+      ⨾ IsStrat upto (left - 1) (from + 1 + nodes first) second ⨾ MoreStrats upto (left - 1) 6 (from + 1 + nodes first + nodes second) others
+      ⨾ One close) tokens
   IsStrat upto left from (Tuples_of at num other) tokens = ⊥
   IsStrat upto left from (OneOf_of at num (more_strat first others)) tokens =
       (num ≡ from) × (OneAt (kind.Word word.OneOf) at ⨾ Opens upto left opening ⨾ IsStrat upto (left - 1) (from + 1) first
       ⨾ MoreStrats upto (left - 1) 15 (from + 1 + nodes first) others ⨾ One close) tokens
   IsStrat upto left from (OneOf_of at num no_strat) tokens = ⊥
   IsStrat upto left from (Map_of at num given inner body) tokens =
-      (num ≡ from) × (OneAt (kind.Word word.Map) at ⨾ Opens upto left opening ⨾ IsName upto given ⨾ One comma ⨾ IsStrat upto (left - 1) (from + 1) inner ⨾ One comma
+      (num ≡ from) × (OneAt (kind.Word word.Map) at ⨾ Opens upto left opening ⨾ IsName upto given ⨾ One comma
+      ⨾ IsStrat upto (left - 1) (from + 1) inner ⨾ One comma
       ⨾ IsExpr upto (left - 1) 0 body ⨾ One close) tokens
   IsStrat upto left from (Filter_of at num given inner cond) tokens =
-      (num ≡ from) × (OneAt (kind.Word word.Filter) at ⨾ Opens upto left opening ⨾ IsName upto given ⨾ One comma ⨾ IsStrat upto (left - 1) (from + 1) inner ⨾ One comma
+      (num ≡ from) × (OneAt (kind.Word word.Filter) at ⨾ Opens upto left opening ⨾ IsName upto given ⨾ One comma
+      ⨾ IsStrat upto (left - 1) (from + 1) inner ⨾ One comma
       ⨾ IsExpr upto (left - 1) 0 cond ⨾ One close) tokens
   IsStrat upto left from (FlatMap_of at num given inner second) tokens =
-      (num ≡ from) × (OneAt (kind.Word word.FlatMap) at ⨾ Opens upto left opening ⨾ IsName upto given ⨾ One comma ⨾ IsStrat upto (left - 1) (from + 1) inner ⨾ One comma
+      (num ≡ from) × (OneAt (kind.Word word.FlatMap) at ⨾ Opens upto left opening ⨾ IsName upto given ⨾ One comma
+      ⨾ IsStrat upto (left - 1) (from + 1) inner ⨾ One comma
       ⨾ IsStrat upto (left - 1) (from + 1 + nodes inner) second ⨾ One close) tokens
   IsStrat upto left from (Recursive_of at num depth first second) tokens =
-      (num ≡ from) × (OneAt (kind.Word word.Recursive) at ⨾ Opens upto left opening ⨾ Limited upto 1 8 depth ⨾ One comma ⨾ IsStrat upto (left - 1) (from + 1) first ⨾ One comma
+      (num ≡ from) × (OneAt (kind.Word word.Recursive) at ⨾ Opens upto left opening ⨾ Limited upto 1 8 depth ⨾ One comma
+      ⨾ IsStrat upto (left - 1) (from + 1) first ⨾ One comma
       ⨾ IsStrat upto (left - 1) (from + 1 + nodes first) second ⨾ One close) tokens
   IsStrat upto left from (Self_of at num) tokens = (num ≡ 0) × OneAt (kind.Word word.Again) at tokens
 

@@ -17,12 +17,15 @@ use Rattle.pt_grammar.specs.StratGrammar.{IsStrat}
 
 -- a statement of a rule or of a property, whose nodes are numbered from there on; `give` stands apart
 abbrev pub IsStmt : Sort → ℕ → Bool → ℕ → StmtTree → List Token → Type 0
-IsStmt upto left in_rule from (Draw_of at given strat) tokens = (OneAt (kind.Word word.Draw) at ⨾ IsName upto given ⨾ One assign ⨾ IsStrat upto left from strat ⨾ One semicolon) tokens
-IsStmt upto left in_rule from (Let_of at given value) tokens = (OneAt (kind.Word word.Let) at ⨾ IsName upto given ⨾ One assign ⨾ IsExpr upto left 0 value ⨾ One semicolon) tokens
+IsStmt upto left in_rule from (Draw_of at given strat) tokens =
+    (OneAt (kind.Word word.Draw) at ⨾ IsName upto given ⨾ One assign ⨾ IsStrat upto left from strat ⨾ One semicolon) tokens
+IsStmt upto left in_rule from (Let_of at given value) tokens =
+    (OneAt (kind.Word word.Let) at ⨾ IsName upto given ⨾ One assign ⨾ IsExpr upto left 0 value ⨾ One semicolon) tokens
 IsStmt upto left in_rule from (Assume_of at cond) tokens = (OneAt (kind.Word word.Assume) at ⨾ IsExpr upto left 0 cond ⨾ One semicolon) tokens
 IsStmt upto left in_rule from (Assert_of at cond) tokens = (OneAt (kind.Word word.Assert) at ⨾ IsExpr upto left 0 cond ⨾ One semicolon) tokens
 IsStmt upto left in_rule from (Pick_of at num given bundle) tokens =
-    IsTrue in_rule × (num ≡ from) × (OneAt (kind.Word word.Pick) at ⨾ IsName upto given ⨾ One (kind.Word word.From) ⨾ IsName upto bundle ⨾ One semicolon) tokens
+    IsTrue in_rule × (num ≡ from) × (OneAt (kind.Word word.Pick) at ⨾ IsName upto given ⨾ One (kind.Word word.From) ⨾ IsName upto bundle
+    ⨾ One semicolon) tokens
 IsStmt upto left in_rule from (Set_of at state value) tokens =
     IsTrue in_rule × (OneAt (kind.Word word.Set) at ⨾ IsName upto state ⨾ One assign ⨾ IsExpr upto left 0 value ⨾ One semicolon) tokens
 IsStmt upto left in_rule from (Give_of at value) tokens = ⊥
@@ -38,13 +41,16 @@ IsGive upto left other tokens = ⊥
 
 -- the statements of a rule, with `give` as the last
 abbrev pub AreRuleStmts : Sort → ℕ → ℕ → List StmtTree → List Token → Type 0
-AreRuleStmts upto left from stmts tokens = (own given : List StmtTree) × (stmts ≡ own ++ given) × (AreStmts upto left true from own ⨾ IsGive upto left given) tokens
+AreRuleStmts upto left from stmts tokens =
+    (own given : List StmtTree) × (stmts ≡ own ++ given) × (AreStmts upto left true from own ⨾ IsGive upto left given) tokens
 
 abbrev pub IsState : Sort → ℕ → StateTree → List Token → Type 0
-IsState upto left state tokens = (OneAt (kind.Word word.State) state.at ⨾ IsName upto state.name ⨾ One assign ⨾ IsExpr upto left 0 state.init ⨾ One semicolon) tokens
+IsState upto left state tokens =
+    (OneAt (kind.Word word.State) state.at ⨾ IsName upto state.name ⨾ One assign ⨾ IsExpr upto left 0 state.init ⨾ One semicolon) tokens
 
 abbrev pub IsBundle : Sort → ℕ → BundleTree → List Token → Type 0
-IsBundle upto left bundle tokens = (OneAt (kind.Word word.Bundle) bundle.at ⨾ IsName upto bundle.name ⨾ One colon ⨾ IsType upto left bundle.type ⨾ One semicolon) tokens
+IsBundle upto left bundle tokens =
+    (OneAt (kind.Word word.Bundle) bundle.at ⨾ IsName upto bundle.name ⨾ One colon ⨾ IsType upto left bundle.type ⨾ One semicolon) tokens
 
 abbrev pub IsInvariant : Sort → ℕ → InvariantTree → List Token → Type 0
 IsInvariant upto left invariant tokens = (OneAt (kind.Word word.Invariant) invariant.at ⨾ IsExpr upto left 0 invariant.cond ⨾ One semicolon) tokens
@@ -71,11 +77,13 @@ Declared {A} upto Spells parts tokens = Series (λ room (part : A). Part upto ro
 -- rules, with the room that is left and the number of the next node
 abbrev pub AreRules : Sort → ℕ → ℕ → ℕ → List RuleTree → List Token → Type 0
 AreRules upto left room from rules tokens =
-    Series {A = RuleTree} {Given = ℕ × ℕ} (λ given rule. Part upto given.0 (IsRule upto left given.1 rule)) (λ given rule. (given.0 - 1, given.1 + length (stmts_numbers rule.stmts))) (room, from) rules tokens
+    Series {A = RuleTree} {Given = ℕ × ℕ} (λ given rule. Part upto given.0 (IsRule upto left given.1 rule))
+    (λ given rule. (given.0 - 1, given.1 + length (stmts_numbers rule.stmts))) (room, from) rules tokens
 
 abbrev pub IsMachine : Sort → ℕ → ℕ → MachineTree → List Token → Type 0
 IsMachine upto left from machine tokens =
-    (machine.num ≡ from) × (Opens upto left open_brace ⨾ Declared upto (IsState upto (left - 1)) machine.states ⨾ Declared upto (IsBundle upto (left - 1)) machine.bundles
+    (machine.num ≡ from) × (Opens upto left open_brace ⨾ Declared upto (IsState upto (left - 1)) machine.states
+    ⨾ Declared upto (IsBundle upto (left - 1)) machine.bundles
     ⨾ Declared upto (IsInvariant upto (left - 1)) machine.invariants ⨾ AreRules upto (left - 1) 64 (from + 1) machine.rules ⨾ One close_brace) tokens
 
 -- one setting, with its number
@@ -89,6 +97,10 @@ pub record Allowed : Type 0 where
   pub runs : Bool
   pub shrink : Bool
   pub steps : Bool
+
+-- all of them may, but `steps` only in machines
+abbrev pub all_settings : Bool → Allowed
+all_settings steps = record { runs = true; shrink = true; steps = steps }
 
 abbrev pub without : Allowed → Setting → Allowed
 without allowed (Runs_of n) = record { runs = false; shrink = allowed.shrink; steps = allowed.steps }
@@ -115,13 +127,15 @@ defaults = record { runs = 100; shrink = 500; steps = 20 }
 -- settings, each at most once, and `steps` only where it may stand
 abbrev pub AreSettings : Sort → Bool → Settings → List Token → Type 0
 AreSettings upto steps settings tokens =
-    (list : List Setting) × (settings ≡ settled defaults list) × Series (IsSetting upto) without (record { runs = true; shrink = true; steps = steps }) list tokens
+    (list : List Setting) × (settings ≡ settled defaults list)
+    × Series (IsSetting upto) without (all_settings steps) list tokens
 
 -- what an item of this name and these settings tests, where its nodes are numbered from there on
 abbrev pub ItemOf : Sort → ℕ → Place → Ident → Settings → BodyTree → List Token → Type 0
 ItemOf upto from at name settings Check_of tokens = (OneAt (kind.Word word.Check) at ⨾ IsName upto name ⨾ AreSettings upto false settings) tokens
 ItemOf upto from at name settings (Property_of stmts) tokens =
-    (OneAt (kind.Word word.Property) at ⨾ IsName upto name ⨾ AreSettings upto false settings ⨾ Opens upto 64 open_brace ⨾ AreStmts upto 63 false from stmts ⨾ One close_brace) tokens
+    (OneAt (kind.Word word.Property) at ⨾ IsName upto name ⨾ AreSettings upto false settings ⨾ Opens upto 64 open_brace
+    ⨾ AreStmts upto 63 false from stmts ⨾ One close_brace) tokens
 ItemOf upto from at name settings (Machine_of machine) tokens =
     (OneAt (kind.Word word.Machine) at ⨾ IsName upto name ⨾ AreSettings upto true settings ⨾ IsMachine upto 64 from machine) tokens
 
@@ -131,7 +145,8 @@ IsItem upto from item tokens = ItemOf upto from item.at item.name item.settings 
 -- items, with the room that is left and the number of the next node
 abbrev pub AreItems : Sort → ℕ → ℕ → List ItemTree → List Token → Type 0
 AreItems upto room from items tokens =
-    Series {A = ItemTree} {Given = ℕ × ℕ} (λ given item. Part upto given.0 (IsItem upto given.1 item)) (λ given item. (given.0 - 1, given.1 + length (body_numbers item.body))) (room, from) items tokens
+    Series {A = ItemTree} {Given = ℕ × ℕ} (λ given item. Part upto given.0 (IsItem upto given.1 item))
+    (λ given item. (given.0 - 1, given.1 + length (body_numbers item.body))) (room, from) items tokens
 
 -- a suite, and then the end of the text
 abbrev pub SuiteText : Sort → SuiteTree → List Token → Type 0

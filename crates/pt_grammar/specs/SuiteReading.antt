@@ -11,7 +11,7 @@ use Rattle.pt_lex.specs.declared.token.Kind.{Kind}
 use Rattle.pt_lex.specs.declared.token.Kind.TheVariants as kind
 use Rattle.pt_lex.specs.declared.token.Word.TheVariants as word
 use Rattle.pt_grammar.specs.declared.sort.Sort.TheVariants as sort
-use Rattle.pt_grammar.specs.SuiteGrammar.{Setting, Runs_of, Shrink_of, Steps_of, Allowed, without, settled, defaults}
+use Rattle.pt_grammar.specs.SuiteGrammar.{Setting, Runs_of, Shrink_of, Steps_of, Allowed, all_settings, without, settled, defaults}
 use Rattle.pt_grammar.specs.Reading.{Fault, at, Reading, ◌>>=◌, one_at, word_at, open_at, name_at, limited_at, is_open_brace, is_close_brace, is_semicolon, is_colon, is_assign, is_from, all_at, maybe_at, room_at, less_room}
 use Rattle.pt_grammar.specs.TypeReading.{type_at}
 use Rattle.pt_grammar.specs.ExprReading.{expr_at}
@@ -55,7 +55,8 @@ stmt_on left in_rule from place tokens rest (kind.Word word.Let) = assigned_at l
 stmt_on left in_rule from place tokens rest (kind.Word word.Assume) = ended_at left rest >>= λ x. Ok (Assume_of place x.0, x.1)
 stmt_on left in_rule from place tokens rest (kind.Word word.Assert) = ended_at left rest >>= λ x. Ok (Assert_of place x.0, x.1)
 stmt_on left in_rule from place tokens rest (kind.Word word.Pick) = if in_rule then pick_at from place rest else Err (at sort.Syntax tokens)
-stmt_on left in_rule from place tokens rest (kind.Word word.Set) = if in_rule then (assigned_at left rest >>= λ x. Ok (Set_of place x.0.0 x.0.1, x.1)) else Err (at sort.Syntax tokens)
+stmt_on left in_rule from place tokens rest (kind.Word word.Set) =
+    if in_rule then (assigned_at left rest >>= λ x. Ok (Set_of place x.0.0 x.0.1, x.1)) else Err (at sort.Syntax tokens)
 stmt_on left in_rule from place tokens rest other = Err (at sort.Syntax tokens)
 
 abbrev pub stmt_at : ℕ → Bool → ℕ → List Token → Reading StmtTree
@@ -178,9 +179,12 @@ begins_setting allowed (kind.Word word.Steps) = allowed.steps
 begins_setting allowed other = false
 
 unfoldable pub setting_on : Allowed → List Token → List Token → Kind → Reading Setting
-setting_on allowed tokens rest (kind.Word word.Runs) = if allowed.runs then (limited_at 1 10000 rest >>= λ n. Ok (Runs_of n.0, n.1)) else Err (at sort.Syntax tokens)
-setting_on allowed tokens rest (kind.Word word.Shrink) = if allowed.shrink then (limited_at 0 1000 rest >>= λ n. Ok (Shrink_of n.0, n.1)) else Err (at sort.Syntax tokens)
-setting_on allowed tokens rest (kind.Word word.Steps) = if allowed.steps then (limited_at 1 64 rest >>= λ n. Ok (Steps_of n.0, n.1)) else Err (at sort.Syntax tokens)
+setting_on allowed tokens rest (kind.Word word.Runs) =
+    if allowed.runs then (limited_at 1 10000 rest >>= λ n. Ok (Runs_of n.0, n.1)) else Err (at sort.Syntax tokens)
+setting_on allowed tokens rest (kind.Word word.Shrink) =
+    if allowed.shrink then (limited_at 0 1000 rest >>= λ n. Ok (Shrink_of n.0, n.1)) else Err (at sort.Syntax tokens)
+setting_on allowed tokens rest (kind.Word word.Steps) =
+    if allowed.steps then (limited_at 1 64 rest >>= λ n. Ok (Steps_of n.0, n.1)) else Err (at sort.Syntax tokens)
 setting_on allowed tokens rest other = Err (at sort.Syntax tokens)
 
 abbrev pub setting_at : Allowed → List Token → Reading Setting
@@ -189,7 +193,7 @@ setting_at allowed (token ∷ rest) = setting_on allowed (token ∷ rest) rest t
 
 abbrev pub settings_at : Bool → List Token → Reading Settings
 settings_at steps tokens =
-    all_at setting_at begins_setting without (record { runs = true; shrink = true; steps = steps }) tokens >>= λ list. Ok (settled defaults list.0, list.1)
+    all_at setting_at begins_setting without (all_settings steps) tokens >>= λ list. Ok (settled defaults list.0, list.1)
 
 -- items
 

@@ -16,7 +16,8 @@ abbrev mutual
   IsType upto left Text_type tokens = One (kind.Word word.Text) tokens
   IsType upto left Bytes_type tokens = One (kind.Word word.Bytes) tokens
   IsType upto left Tree_type tokens = One (kind.Word word.Tree) tokens
-  IsType upto left (List_type member) tokens = (One (kind.Word word.List) ⨾ Opens upto left opening ⨾ IsType upto (left - 1) member ⨾ One close) tokens
+  IsType upto left (List_type member) tokens = (One (kind.Word word.List) ⨾ Opens upto left opening ⨾ IsType upto (left - 1) member
+      ⨾ One close) tokens
   IsType upto left (Tuple_type (more_type first (more_type second others))) tokens =
       (One (kind.Word word.Tuple) ⨾ Opens upto left opening ⨾ IsType upto (left - 1) first ⨾ One comma ⨾ IsType upto (left - 1) second
       ⨾ MoreTypes upto (left - 1) 6 others ⨾ One close) tokens
@@ -25,4 +26,5 @@ abbrev mutual
   -- types, each behind a comma, where there is room for this many
   pub MoreTypes : Sort → ℕ → ℕ → TypeTrees → List Token → Type 0
   MoreTypes upto left room no_type tokens = tokens ≡ []
-  MoreTypes upto left room (more_type first others) tokens = ((One comma ⨾ Part upto room (IsType upto left first)) ⨾ MoreTypes upto left (room - 1) others) tokens
+  MoreTypes upto left room (more_type first others) tokens = ((One comma ⨾ Part upto room (IsType upto left first))
+      ⨾ MoreTypes upto left (room - 1) others) tokens
