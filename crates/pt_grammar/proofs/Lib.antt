@@ -1,0 +1,17 @@
+pub mod Outcomes
+pub mod Forms
+pub mod Lists
+pub mod Tested
+pub mod Types
+pub mod Single
+pub mod ExprShapes
+pub mod Chains
+pub mod Atoms
+pub mod Exprs
+pub mod Strats
+pub mod Stmts
+pub mod Machines
+pub mod Suites
+pub mod SuiteTexts
+pub mod Bounded
+pub mod Numbered
