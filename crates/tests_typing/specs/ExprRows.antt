@@ -1,5 +1,5 @@
 -- Expressions with their first faults, worked by hand.
-use Rattle.std.specs.Prelude.{ℕ, [], ◌∷◌, codes}
+use Rattle.std.specs.Prelude.{[], ◌∷◌, codes}
 use Rattle.pt_ast.specs.declared.expr.Binder.TheVariants.{All, Any, Each}
 use Rattle.pt_ast.specs.declared.expr.CompareOp.TheVariants.{Eq, Ne, Lt, Ge}
 use Rattle.pt_ast.specs.declared.expr.Func.TheVariants.{Len, Has, Sum, Cat, Rev, Leaf, Node, Label, Kids, Labels}
@@ -7,7 +7,7 @@ use Rattle.pt_ast.specs.declared.expr.Op.TheVariants.{Mul}
 use Rattle.pt_ast.specs.Trees.{If_of, Or_of, And_of, Not_of, Compare_of, Prod_of, Neg_of, Bind_of, Bracket_of, exprs_of, tail_of, tails_of}
 use Rattle.pt_typing.specs.Fault.{Unknown, Twice, Wrong}
 use Rattle.pt_typing.specs.ExprFaults.{FaultIn}
-use Rattle.tests_typing.specs.Parts.{at, called, one, yes, word, x, z, lost, listed, tupled, call, plus, index, part, behind, with_x}
+use Rattle.tests_typing.specs.Parts.{at, called, one, yes, word, z, lost, listed, tupled, call, plus, index, part, behind, with_x}
 
 -- operators, branches, brackets
 pub record OperatorRows : Type 0 where

@@ -1,5 +1,5 @@
 -- Small parts of suites, each at a place of its own: the number that comes first is the column.
-use Rattle.std.specs.Prelude.{ℕ, pos, true, Option, None, List, [], ◌∷◌, codes}
+use Rattle.std.specs.Prelude.{ℕ, pos, true, Option, List, [], ◌∷◌, codes}
 use Rattle.pt_val.specs.declared.place.Place.{Place}
 use Rattle.pt_ast.specs.declared.ident.Ident.{Ident}
 use Rattle.pt_ast.specs.declared.expr.Func.{Func}

@@ -1,7 +1,6 @@
 -- Strategies with their first faults, worked by hand.
-use Rattle.std.specs.Prelude.{ℕ, Option, Some, None, [], ◌∷◌, codes}
+use Rattle.std.specs.Prelude.{ℕ, None, [], ◌∷◌, codes}
 use Rattle.pt_ast.specs.declared.strat.Alphabet.{Alphabet}
-use Rattle.pt_ast.specs.Types.{Int_type, Bool_type}
 use Rattle.pt_ast.specs.Trees.{StratTree, Ints_of, Texts_of, Blobs_of, Sampled_of, Lists_of, Tuples_of, OneOf_of, Map_of, Filter_of, FlatMap_of, Recursive_of, Self_of, strats_of}
 use Rattle.pt_typing.specs.Fault.{Unknown, Twice, Wrong}
 use Rattle.pt_typing.specs.StratFaults.{FaultInStrat}

@@ -1,11 +1,11 @@
 -- Statements, machines and suites with their first faults, worked by hand.
-use Rattle.std.specs.Prelude.{ℕ, Option, Some, None, List, [], ◌∷◌, codes}
+use Rattle.std.specs.Prelude.{ℕ, Some, None, List, [], ◌∷◌, codes}
 use Rattle.pt_ast.specs.Types.{Int_type, Bool_type}
 use Rattle.pt_ast.specs.Trees.{MachineTree, Bracket_of, Map_of, Draw_of, Let_of, Assume_of, Assert_of, Pick_of, Set_of, Give_of, Check_of, Property_of, Machine_of}
-use Rattle.pt_ast.specs.Suites.{no_context, BindAll, IsTypedMachine, IsTyped}
+use Rattle.pt_ast.specs.Suites.{no_context, BindAll, IsTyped}
 use Rattle.pt_typing.specs.Fault.{Unknown, Twice, Wrong, UnknownCheck}
 use Rattle.pt_typing.specs.SuiteFaults.{FaultInStmts, FaultInRule, FaultInMachine, FaultInSuite}
-use Rattle.tests_typing.specs.Parts.{at, called, one, yes, x, z, lost, plus, ints, with_x, beside, state, bundle, invariant, rule, machine, item, suite}
+use Rattle.tests_typing.specs.Parts.{at, called, one, yes, x, lost, plus, ints, with_x, beside, state, bundle, invariant, rule, machine, item, suite}
 
 pub record StmtRows : Type 0 where
   pub not_in_its_own_value : FaultInStmts no_context [] (Let_of (at 1) (called 2 (codes "x")) (x 3) ∷ []) (Unknown (at 3))

@@ -2,6 +2,8 @@
 #![tactic(auto)]
 
 mod rows;
+#[cfg(test)]
+mod types;
 
 pub use rows::{
     call_rows, leaf_rows, machine_rows, node_rows, operator_rows, post_rows, rule_rows, stmt_rows,

@@ -4,7 +4,7 @@ use Rattle.pt_ast.specs.declared.expr.Binder.TheVariants.{All, Any, Each}
 use Rattle.pt_ast.specs.declared.expr.Func.TheVariants.{Len, Has, Sum, Cat, Rev, Leaf, Node, Label, Kids, Labels}
 use Rattle.pt_ast.specs.Trees.{Bind_of}
 use Rattle.pt_typing.specs.Fault.{Unknown, Twice, Wrong}
-use Rattle.tests_typing.specs.Parts.{at, called, one, yes, word, x, z, lost, listed, tupled, call, plus, with_x}
+use Rattle.tests_typing.specs.Parts.{at, called, one, yes, word, z, lost, listed, tupled, call, plus, with_x}
 use Rattle.pt_typing.proofs.Exprs.{expr-check}
 use Rattle.tests_typing.proofs.rows.call_rows.Goals as goal
 

@@ -1,5 +1,5 @@
 use Rattle.std.proofs.Common.{refl}
-use Rattle.std.specs.Prelude.{None, [], ◌∷◌}
+use Rattle.std.specs.Prelude.{None, []}
 use Rattle.pt_ast.specs.Trees.{Ints_of, Texts_of, Blobs_of, Sampled_of}
 use Rattle.pt_typing.specs.Fault.{Unknown, Twice, Wrong}
 use Rattle.tests_typing.specs.Parts.{at, one, yes, word, lost}

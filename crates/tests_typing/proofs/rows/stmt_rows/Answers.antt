@@ -4,7 +4,7 @@ use Rattle.pt_ast.specs.Types.{Int_type}
 use Rattle.pt_ast.specs.Trees.{Bracket_of, Map_of, Draw_of, Let_of, Assume_of, Assert_of, Pick_of, Set_of, Give_of}
 use Rattle.pt_ast.specs.Suites.{no_context}
 use Rattle.pt_typing.specs.Fault.{Unknown, Twice, Wrong}
-use Rattle.tests_typing.specs.Parts.{at, called, one, yes, x, z, lost, ints, with_x, beside}
+use Rattle.tests_typing.specs.Parts.{at, called, one, yes, x, lost, ints, with_x, beside}
 use Rattle.pt_typing.proofs.Suites.{stmts-check}
 use Rattle.tests_typing.proofs.rows.stmt_rows.Goals as goal
 

@@ -1,6 +1,6 @@
 use Rattle.std.proofs.Common.{subst}
 use Rattle.pt_types.specs.declared.shape.Shape.TheVariants as shape
-use Rattle.pt_types.specs.Kept.{AreKept, Keeps, trees_of, tree_of}
+use Rattle.pt_types.specs.Kept.{Keeps, trees_of, tree_of}
 use Rattle.pt_types.proofs.Kept.{within-trees, kept-after, keeps-after}
 use Rattle.pt_types.proofs.types.Types.list_of.Goals as goal
 
