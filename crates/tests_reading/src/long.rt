@@ -7,7 +7,7 @@ use pt_lex::{Kind, LexStop, tokens_of};
 use std::alloc::Global;
 
 /// A text: a front, so many times a piece, and a back.
-type Long = (&'static [u8], &'static [u8], usize, &'static [u8]);
+pub type Long = (&'static [u8], &'static [u8], usize, &'static [u8]);
 
 /// A token, with how much it holds.
 #[derive(Clone, Copy)]
@@ -64,8 +64,8 @@ const HOSTILE: [(Long, First, usize); 12] = [
     ((b"x\"", b"00", 524286, b"\""), First::LongBytes, 2),
 ];
 
-// The text that is written so.
-fn text_of(alloc: Global, long: Long) -> Result<Octets, NoMemory> {
+/// The text that is written so.
+pub fn text_of(alloc: Global, long: Long) -> Result<Octets, NoMemory> {
     let (front, piece, times, back) = long;
     let mut text = Octets::of(alloc, front)?;
     for _ in 0..times {

@@ -1,0 +1,5 @@
+mod Counts
+mod Room
+mod Settled
+mod SuiteAnswers
+mod SuiteLaws
