@@ -1,0 +1,8 @@
+use Rattle.pt_ast.proofs.Shared.{trees_cross, machine_field_sync}
+use Rattle.pt_machine.proofs.sharing.workers_share_them.Goals as goal
+
+pub may_be_shared-requires-send-T : goal.may_be_shared-requires-send-T
+may_be_shared-requires-send-T c κs = search (trees_cross, machine_field_sync) depth 100 fits 20000
+
+pub may_be_shared-requires-sync-T : goal.may_be_shared-requires-sync-T
+may_be_shared-requires-sync-T c κs = search (trees_cross, machine_field_sync) depth 100 fits 20000

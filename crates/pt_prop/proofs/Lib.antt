@@ -1,0 +1,3 @@
+pub mod NotesLemmas
+pub mod RecordLemmas
+pub mod NotedLaws

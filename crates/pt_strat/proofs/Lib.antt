@@ -1,0 +1,14 @@
+pub mod ValueLemmas
+pub mod DrawLemmas
+pub mod IntegerLemmas
+pub mod BundleLemmas
+pub mod ScopeLemmas
+pub mod NodeLemmas
+pub mod BoundsLaws
+pub mod MemberLaws
+pub mod QuietLaws
+pub mod ListLemmas
+pub mod FilterLemmas
+pub mod PartLemmas
+pub mod DrawnLaws
+pub mod BodyLemmas

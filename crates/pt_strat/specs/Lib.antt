@@ -1,0 +1,11 @@
+pub mod Labels
+pub mod Bounds
+pub mod Parts
+pub mod Strategy
+pub mod Scope
+pub mod Weight
+pub mod Valued
+pub mod Member
+pub mod Laws
+pub mod Bundles
+pub mod Statement
