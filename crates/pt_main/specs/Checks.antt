@@ -1,6 +1,7 @@
 -- What the example checks mean.
-use Rattle.std.specs.Prelude.{◌≡◌, ◌↔◌, ℕ, List, [], ◌∷◌, codes}
+use Rattle.std.specs.Prelude.{◌≡◌, ◌↔◌, ℕ, pos, int_lt, List, [], ◌∷◌, codes, if◌then◌else◌}
 use Rattle.pt_choice.specs.declared.choice.Choice.{Choice}
+use Rattle.pt_val.specs.declared.val.Val.{Val}
 use Rattle.pt_case.specs.declared.ending.Ending.{Ending}
 use Rattle.pt_case.specs.declared.ending.Ending.TheVariants.{Pass, Fail}
 use Rattle.pt_case.specs.declared.ending.Origin.TheVariants.{Point}
@@ -8,6 +9,9 @@ use Rattle.pt_case.specs.Step.{Answer, End}
 use Rattle.pt_plan.specs.Asked.{asked_flag}
 use Rattle.pt_plan.specs.Plan.{Plan, Gives, and_then}
 use Rattle.pt_plan.specs.Says.{plan_says}
+use Rattle.pt_typed.specs.Plans.{ints_plan, pair_plan}
+use Rattle.pt_typed.specs.Property.{property_plan}
+use Rattle.pt_typed.specs.Reading.{number_of, first_of, second_of}
 
 abbrev pub never_name : List ℕ
 never_name = codes "never"
@@ -26,15 +30,18 @@ never_says = plan_says never_plan
 abbrev pub always_says : List Choice → Answer → Type 0
 always_says choices said = said ≡ End (Fail (Point 1)) [] []
 
+abbrev pub sorted_pair_name : List ℕ
+sorted_pair_name = codes "sorted_pair"
+
+-- a pair of integers fails at point 1 where the first exceeds the second
+abbrev pub in_order : Val → Ending
+in_order pair = if int_lt (number_of (second_of pair)) (number_of (first_of pair)) then Fail (Point 1) else Pass
+
+-- two integers from 0 to 1,000 are in order
+abbrev pub sorted_pair_says : List Choice → Answer → Type 0
+sorted_pair_says = plan_says (property_plan (pair_plan (ints_plan (pos 0) (pos 1000)) (ints_plan (pos 0) (pos 1000))) in_order)
+
 -- a check of this name, which answers to each list as this one does
 pub record IsCheck (name : List ℕ) (step : List Choice → Answer → Type 0) (named : List ℕ) (says : List Choice → Answer → Type 0) : Type 0 where
   pub same_name : name ≡ named
   pub answers : (choices : List Choice) (said : Answer) → step choices said ↔ says choices said
-
--- the checks of the program: `never`, and then `always`
-pub record AreExamples {C : Type 0} (name : C → List ℕ) (step : C → List Choice → Answer → Type 0) (checks : List C) : Type 0 where
-  pub never : C
-  pub always : C
-  pub both : checks ≡ never ∷ always ∷ []
-  pub is_never : IsCheck (name never) (step never) never_name never_says
-  pub is_always : IsCheck (name always) (step always) always_name always_says

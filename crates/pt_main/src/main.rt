@@ -1,16 +1,23 @@
-//! The program: a tester over the example checks `never` and `always`.
+//! The program: a tester over the example checks `never`, `always`, `sorted_pair` and `counter`.
 #![tactic(auto)]
+
+ghost use Rattle.pt_main.specs.Checks.{never_name, never_says, always_name, always_says, sorted_pair_name, sorted_pair_says, IsCheck};
 
 mod always;
 mod checks;
+mod counter;
 mod never;
+mod sorted_pair;
 
 use always::Always;
 use checks::handed;
+use counter::{Add, Reset};
 use never::Never;
 use pt_case::Check;
 use pt_choice::NoMemory;
 use pt_host::{OUT_OF_MEMORY, tester};
+use pt_rules::Rule;
+use sorted_pair::sorted_pair;
 use std::env::Env;
 use std::process::ExitCode;
 use std::rt::Files;
@@ -24,5 +31,24 @@ fn tested<R: Env + Files + Print + AllocGlobal>(rt: &R) -> Result<ExitCode, NoMe
     let alloc = rt.alloc();
     let never: Box<dyn Check> = Box::new(alloc, Never::of(alloc)?)?;
     let always: Box<dyn Check> = Box::new(alloc, Always::of(alloc)?)?;
-    Ok(tester(rt, &handed(never, always)))
+    let sorted_pair: Box<dyn Check> = Box::new(alloc, sorted_pair(alloc)?)?;
+    tested_with(rt, never, always, sorted_pair)
+}
+
+// The same, where those in boxes are made.
+fn tested_with<R: Env + Files + Print + AllocGlobal>(
+    rt: &R,
+    never: Box<dyn Check>,
+    always: Box<dyn Check>,
+    sorted_pair: Box<dyn Check>,
+) -> Result<ExitCode, NoMemory>
+    requires never { IsCheck (name never) (step never) never_name never_says }
+    requires always { IsCheck (name always) (step always) always_name always_says }
+    requires sorted_pair { IsCheck (name sorted_pair) (step sorted_pair) sorted_pair_name sorted_pair_says }
+{
+    let alloc = rt.alloc();
+    let add: Box<dyn Rule> = Box::new(alloc, Add::of(alloc)?)?;
+    let reset: Box<dyn Rule> = Box::new(alloc, Reset::of(alloc)?)?;
+    let checks = handed(alloc, never, always, sorted_pair, add, reset)?;
+    Ok(tester(rt, &checks))
 }

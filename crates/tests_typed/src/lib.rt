@@ -2,11 +2,15 @@
 #![tactic(auto)]
 
 #[cfg(test)]
+mod door;
+#[cfg(test)]
 mod drawn;
 #[cfg(test)]
 mod expect;
 #[cfg(test)]
 mod functions;
+#[cfg(test)]
+mod lamp;
 #[cfg(test)]
 mod properties;
 #[cfg(test)]

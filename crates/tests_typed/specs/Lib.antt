@@ -1,0 +1,2 @@
+pub mod Lamp
+pub mod Door
