@@ -1,0 +1,5 @@
+mod BoxLemmas
+mod NameLemmas
+mod ChecksLemmas
+mod CommandLemmas
+mod PiecesLemmas

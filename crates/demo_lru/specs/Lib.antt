@@ -1,0 +1,7 @@
+pub mod Command
+pub mod Listed
+pub mod Cache
+pub mod Hexed
+pub mod LeapYears
+pub mod Pieces
+pub mod Checks
