@@ -1,4 +1,6 @@
 ghost use Rattle.std.specs.Prelude.{◌≡◌, ◌+◌, ◌*◌, ◌++◌, ◌<◌, ◌≤◌, ℕ, min, length, IfOk, OnOk, vec_len, slice_index_or};
+ghost use Rattle.pt_rng.specs.Supplied.{supply_of_run};
+ghost use Rattle.pt_case.specs.Run.{IsRun};
 ghost use Rattle.pt_case.specs.Runs.{AreRuns};
 ghost use Rattle.pt_par.specs.Stretch.{IsStretch};
 
@@ -103,11 +105,44 @@ fn made_from<C: Check>(
     requires { from ≤ to }
     ensures { IfOk result (λ made. AreRuns (C.step check.now) seed from to made.items) }
 {
+    let alone = to - from == 1;
     let mut made = Vec::new(alloc);
     for run in from..to {
-        made.push(fresh(alloc, check, seed, run)?)?;
+        made.push(make(alloc, check, seed, run, alone)?)?;
     }
     Ok(made)
+}
+
+// The record of a run. One that is kept beside others holds no more memory than its members need: a run makes room for the most
+// choices and spans.
+fn make<C: Check>(
+    alloc: Global,
+    check: &C,
+    seed: u64,
+    run: u64,
+    alone: bool,
+) -> Result<Record, NoMemory>
+    ensures { IfOk result (λ rec. IsRun (C.step check.now) (supply_of_run seed run) rec) }
+{
+    let rec = fresh(alloc, check, seed, run)?;
+    if alone {
+        return Ok(rec);
+    }
+    fitted(rec)
+}
+
+// The record, in as much memory as its choices and spans need.
+fn fitted(rec: Record) -> Result<Record, NoMemory>
+    ensures { IfOk result (λ fitted. fitted ≡ rec) }
+{
+    let choices = rec.choices.copy()?;
+    let spans = rec.spans.copy()?;
+    Ok(Record {
+        choices,
+        spans,
+        notes: rec.notes,
+        ending: rec.ending,
+    })
 }
 
 // The shares one after another.

@@ -9,6 +9,7 @@ use crate::lists::{Sample, choices_of, numbers, one_list};
 use crate::never::Never;
 use crate::tail::Tail;
 use crate::two::{Judge, Two};
+use crate::wide::{a_hundred_stored, wide};
 use pt_case::{Check, ChoiceLists};
 use pt_choice::NoMemory;
 use pt_engine::examine;
@@ -156,6 +157,28 @@ fn a_stored_failure_is_reduced_to_its_one_example(rt: HostRuntime) -> Result<(),
     for (row, (kind, stored, wanted)) in REDUCED.iter().enumerate() {
         expect(&rt, row, is_row(&rt, rt.alloc(), *kind, stored, wanted));
     }
+    Ok(())
+}
+
+// Three zeros, each behind the flag that there is one more, and the flag that there is none.
+const THREE: &[Sample] = &[
+    Sample::Flag(true),
+    Sample::Number(0),
+    Sample::Flag(true),
+    Sample::Number(0),
+    Sample::Flag(true),
+    Sample::Number(0),
+    Sample::Flag(false),
+];
+
+fn is_wide_reduced<R: Threads + Sync>(rt: &R, alloc: Global) -> Result<bool, NameStop> {
+    let check = wide(alloc, Name::of(alloc, "wide")?);
+    Ok(is_reduced(rt, alloc, &check, &a_hundred_stored(alloc)?, THREE)?)
+}
+
+#[test]
+fn a_list_of_a_hundred_is_cut_to_three(rt: HostRuntime) -> Result<(), Fail> {
+    expect(&rt, 0, is_wide_reduced(&rt, rt.alloc()));
     Ok(())
 }
 

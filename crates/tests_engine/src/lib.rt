@@ -17,3 +17,5 @@ pub mod number;
 #[cfg(test)]
 mod tail;
 pub mod two;
+#[cfg(test)]
+mod wide;

@@ -7,11 +7,13 @@ use std::alloc::Global;
 /// A choice as plain data.
 #[derive(Clone, Copy, Debug)]
 pub enum Sample {
+    Flag(bool),
     Number(i128),
 }
 
 fn made(sample: Sample) -> Choice {
     match sample {
+        Sample::Flag(value) => Choice::Bool(value),
         Sample::Number(value) => Choice::Int(value),
     }
 }
