@@ -23,6 +23,13 @@ chained_more Spells [] value bytes front none spelled = (front, [], spelled, ref
 chained_more Spells (first ∷ others) value bytes front (start, rest, one, more, parts) spelled =
     (start, rest ++ front, one, chained_more Spells others value rest front more spelled, rw parts (append_assoc start rest front))
 
+-- one chain behind the other
+pub chained_append : {A : Type 0} (Spells : A → List ℕ → Type 0) (list more : List A) (bytes rest : List ℕ)
+    → Chained Spells list bytes → Chained Spells more rest → Chained Spells (list ++ more) (bytes ++ rest)
+chained_append Spells [] more bytes rest none spelled = subst (λ b. Chained Spells more (b ++ rest)) (sym none) spelled
+chained_append Spells (first ∷ others) more bytes rest (start, behind, one, chained, parts) spelled =
+    (start, behind ++ rest, one, chained_append Spells others more behind rest chained spelled, rw parts (append_assoc start behind rest))
+
 -- a chain of no bytes has no values
 pub chained_none : {A : Type 0} (Spells : A → List ℕ → Type 0) → IsPrefixFree Spells → (list : List A) → Chained Spells list [] → list ≡ []
 chained_none Spells free [] spelled = refl
@@ -53,7 +60,7 @@ one_chain Spells free a b bytes h k =
     sym (behind.1 ∙ ap (λ t. a ++ t) (chained_none Spells free behind.0 behind.2) ∙ append-nil a)
 
 -- bytes that spell a chain begin with its first value
-starts_first : {A : Type 0} (Spells : A → List ℕ → Type 0) (list : List A) (byte : ℕ) (bytes : List ℕ) → Chained Spells list (byte ∷ bytes)
+pub starts_first : {A : Type 0} (Spells : A → List ℕ → Type 0) (list : List A) (byte : ℕ) (bytes : List ℕ) → Chained Spells list (byte ∷ bytes)
     → (value : A) × StartsWith Spells value (byte ∷ bytes)
 starts_first Spells [] byte bytes spelled = absurd cc
 starts_first Spells (c ∷ cs) byte bytes (front, others, one, more, parts) = (c, (others, (front, one, parts)))

@@ -14,3 +14,5 @@ pub mod PrintedLists
 pub mod OneSpelling
 pub mod Limited
 pub mod PrintedLengths
+pub mod StoredLists
+pub mod StoredLengths

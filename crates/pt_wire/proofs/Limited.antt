@@ -6,7 +6,7 @@ use Rattle.pt_choice.specs.declared.choice.Choice.{Choice}
 use Rattle.pt_choice.specs.declared.choice.Choice.TheVariants as choice
 use Rattle.pt_choice.specs.Limits.{IsInLimits}
 use Rattle.pt_wire.specs.Spelling.{Chained, Joined}
-use Rattle.pt_wire.specs.Stored.{StoredChoice, Stored}
+use Rattle.pt_wire.specs.Stored.{Stored, StoredChoice, StoredOne}
 use Rattle.pt_wire.specs.Printed.{PrintedChoice, Printed}
 
 stored_within : (c : Choice) (bytes : List ℕ) → StoredChoice c bytes → IsInLimits c
@@ -34,8 +34,11 @@ all_printed : (list : List Choice) (text : List ℕ) → Printed list text → A
 all_printed [] text h = tt
 all_printed (c ∷ cs) text h = all_joined (c ∷ cs) text h
 
+pub old_limits : (list : List Choice) (bytes : List ℕ) → StoredOne list bytes → All IsInLimits list
+old_limits list bytes h = All-from_recursion IsInLimits list (all_stored list bytes h)
+
 pub stored_limits : (list : List Choice) (bytes : List ℕ) → Stored list bytes → All IsInLimits list
-stored_limits list bytes h = All-from_recursion IsInLimits list (all_stored list bytes h)
+stored_limits list bytes (front, held, header, spelled, parts) = old_limits list held spelled
 
 pub printed_limits : (list : List Choice) (text : List ℕ) → Printed list text → All IsInLimits list
 printed_limits list text h = All-from_recursion IsInLimits list (all_printed list text h)

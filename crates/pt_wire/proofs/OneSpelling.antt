@@ -4,7 +4,7 @@ use Rattle.pt_choice.specs.declared.choice.Choice.{Choice}
 use Rattle.pt_choice.specs.declared.choice.Choice.TheVariants as choice
 use Rattle.pt_wire.specs.Leb128.{IsLeb128}
 use Rattle.pt_wire.specs.Spelling.{Chained, Joined}
-use Rattle.pt_wire.specs.Stored.{zigzag, StoredChoice}
+use Rattle.pt_wire.specs.Stored.{zigzag, Stored, StoredChoice, StoredOne}
 use Rattle.pt_wire.specs.Printed.{PrintedBool, PrintedByte, PrintedNumber, PrintedPlaces, PrintedChoice, Printed}
 
 one_chained : {A : Type 0} (Spells : A → List ℕ → Type 0) → ((value : A) (f g : List ℕ) → Spells value f → Spells value g → f ≡ g)
@@ -43,8 +43,12 @@ stored_choice (choice.Int value) f g (held, is, spelled, small) (held', is', spe
 stored_choice (choice.Bytes items) f g (held, is, counted) (held', is', counted') = behind 3 f g held held' is is' (counted.0 ∙ sym counted'.0)
 stored_choice (choice.Text places) f g (held, is, counted) (held', is', counted') = behind 4 f g held held' is is' (counted.0 ∙ sym counted'.0)
 
-pub stored_spelling : (list : List Choice) (a b : List ℕ) → Chained StoredChoice list a → Chained StoredChoice list b → a ≡ b
-stored_spelling = one_chained StoredChoice stored_choice
+pub old_spelling : (list : List Choice) (a b : List ℕ) → StoredOne list a → StoredOne list b → a ≡ b
+old_spelling = one_chained StoredChoice stored_choice
+
+pub stored_spelling : (list : List Choice) (a b : List ℕ) → Stored list a → Stored list b → a ≡ b
+stored_spelling list a b (front, held, (form, small), spelled, parts) (front', held', (form', small'), spelled', parts') =
+    parts ∙ ap (λ f. f ++ held) (form ∙ sym form') ∙ ap (λ h. front' ++ h) (old_spelling list held held' spelled spelled') ∙ sym parts'
 
 printed_bool : (value : Bool) (f g : List ℕ) → PrintedBool value f → PrintedBool value g → f ≡ g
 printed_bool false f g h k = h ∙ sym k

@@ -9,7 +9,7 @@ use Rattle.pt_wire.specs.Spelling.{Chained, Joined}
 use Rattle.pt_wire.specs.Printed.{PrintedByte, PrintedChoice, PrintedInteger, PrintedNumber, PrintedPlaces, Printed}
 
 -- spellings one after the other, each of so many bytes at most
-length-chained : {A : Type 0} (Spells : A → List ℕ → Type 0) (most : ℕ) → ((value : A) (text : List ℕ) → Spells value text → length text ≤ most)
+pub length-chained : {A : Type 0} (Spells : A → List ℕ → Type 0) (most : ℕ) → ((value : A) (text : List ℕ) → Spells value text → length text ≤ most)
     → (list : List A) (text : List ℕ) → Chained Spells list text → length text ≤ most * length list
 length-chained Spells most each [] text none = omega (arith, ap length none)
 length-chained Spells most each (first ∷ others) text (front, rest, one, more, parts) =

@@ -57,7 +57,7 @@ integer_of number = elim (cases_lt 0 (number % 2)) [
 ]
 
 -- the number of an integer of small magnitude
-number_small : (value : ℤ) → unsigned_abs value < 2 ^ 64 → zigzag value ≤ 2 ^ 65 - 2
+pub number_small : (value : ℤ) → unsigned_abs value < 2 ^ 64 → zigzag value ≤ 2 ^ 65 - 2
 number_small (pos n) small = omega arith
 number_small (negsuc n) small = omega arith
 

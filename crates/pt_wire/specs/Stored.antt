@@ -1,5 +1,5 @@
 -- Lists of choices as bytes.
-use Rattle.std.specs.Prelude.{◌≡◌, ℕ, ◌+◌, ◌*◌, ◌<◌, true, false, ℤ, pos, negsuc, List, [], ◌∷◌, length}
+use Rattle.std.specs.Prelude.{◌≡◌, ℕ, ◌+◌, ◌*◌, ◌/◌, ◌%◌, ◌<◌, true, false, ℤ, pos, negsuc, List, [], ◌∷◌, ◌++◌, length}
 use Rattle.std.specs.List.{AllByRecursion}
 use Rattle.pt_choice.specs.declared.choice.Choice.{Choice}
 use Rattle.pt_choice.specs.declared.choice.Choice.TheVariants as choice
@@ -28,6 +28,14 @@ StoredChoice (choice.Int value) bytes = (held : List ℕ) × (bytes ≡ 2 ∷ he
 StoredChoice (choice.Bytes items) bytes = (held : List ℕ) × (bytes ≡ 3 ∷ held) × IsCounted items held
 StoredChoice (choice.Text places) bytes = (held : List ℕ) × (bytes ≡ 4 ∷ held) × IsCounted places held
 
--- a list: its choices one after the other
+-- a list in version 1: its choices one after the other
+abbrev pub StoredOne : List Choice → List ℕ → Type 0
+StoredOne = Chained StoredChoice
+
+-- the byte of version 2, and then how many choices there are, as two bytes with the low one first
+abbrev pub IsHeader : ℕ → List ℕ → Type 0
+IsHeader count bytes = (bytes ≡ 242 ∷ count % 256 ∷ count / 256 ∷ []) × (count < 65536)
+
+-- a list in version 2: the header for its length, and its choices one after the other
 abbrev pub Stored : List Choice → List ℕ → Type 0
-Stored = Chained StoredChoice
+Stored list bytes = (front held : List ℕ) × IsHeader (length list) front × Chained StoredChoice list held × (bytes ≡ front ++ held)

@@ -4,21 +4,63 @@ ghost use Rattle.pt_wire.specs.Answer.{IsAnswerFor, Reads, StopsAt};
 ghost use Rattle.pt_choice.specs.Limits.{IsBounded};
 ghost use Rattle.pt_wire.specs.Limits.{IsWritable};
 ghost use Rattle.pt_wire.specs.Spelling.{FailsAt, Splits, StartsWith};
-ghost use Rattle.pt_wire.specs.Stored.{IsCounted, Stored, StoredChoice, zigzag};
+ghost use Rattle.pt_wire.specs.Stored.{IsCounted, IsHeader, Stored, StoredChoice, StoredOne, zigzag};
 
 use crate::WireFault;
 use crate::fault::Stop;
 use crate::gathered::Gathered;
 use crate::groups::read_groups;
+use crate::header::read_header;
 use pt_choice::{Choice, Choices, Octets};
 use std::alloc::Global;
 
-/// Reads the bytes that the database stores for a list of choices, all of them. They are fewer than 2^32. A list of
-/// more than 256 choices is not kept, and the bytes behind its first 256 are still read.
+/// Reads the bytes that the database stores for a list of choices, all of them, in version 2. They are fewer than
+/// 2^32. A list of more than 256 choices is not kept, and the bytes behind its first 256 are still read.
 pub fn decode(alloc: Global, bytes: &[u8]) -> Result<Choices, WireFault>
     requires { length bytes.now < 2 ^ 32 }
     ensures reads { Reads Stored bytes.now result }
     ensures only { (list : List Choice) → Stored list bytes.now → IsAnswerFor list result }
+    ensures writable { IfOk result IsWritable }
+{
+    match read_header(bytes) {
+        Ok((count, held)) => read_list(alloc, bytes, count, held),
+        Err(place) => Err(WireFault::NotSpelling { at: place as u32 }),
+    }
+}
+
+/// Reads what an entry holds behind its header: so many choices, and nothing after them. Places are the entry's.
+fn read_list(alloc: Global, entry: &[u8], count: u16, held: &[u8]) -> Result<Choices, WireFault>
+    requires short { length entry.now < 2 ^ 32 }
+    requires split { Splits IsHeader count entry.now held.now }
+    ensures { Reads Stored entry.now result }
+{
+    let mut gathered = Gathered::empty(alloc);
+    let mut rest = held;
+    for _ in 0..count {
+        match read_choice(alloc, rest) {
+            Ok((choice, after)) => {
+                gathered.gather(choice)?;
+                rest = after;
+            }
+            Err(Stop::At(place)) => {
+                let at = entry.len() - rest.len() + place;
+                return Err(WireFault::NotSpelling { at: at as u32 });
+            }
+            Err(Stop::NoMemory) => return Err(WireFault::NoMemory),
+        }
+    }
+    if rest.is_empty() {
+        return gathered.into_list();
+    }
+    let at = entry.len() - rest.len();
+    Err(WireFault::NotSpelling { at: at as u32 })
+}
+
+/// Reads the bytes of version 1, all of them, as `decode` does those of version 2.
+pub fn decode_one(alloc: Global, bytes: &[u8]) -> Result<Choices, WireFault>
+    requires { length bytes.now < 2 ^ 32 }
+    ensures reads { Reads StoredOne bytes.now result }
+    ensures only { (list : List Choice) → StoredOne list bytes.now → IsAnswerFor list result }
     ensures writable { IfOk result IsWritable }
 {
     let mut gathered = Gathered::empty(alloc);

@@ -5,15 +5,20 @@ ghost use Rattle.pt_wire.specs.Spelling.{Appends};
 ghost use Rattle.pt_wire.specs.Stored.{IsCounted, Stored, StoredChoice, zigzag};
 
 use crate::groups::push_groups;
+use crate::header::push_header;
 use pt_choice::{Choice, Choices, NoMemory, Octets};
 use std::alloc::Global;
 
-/// The bytes that the database stores for a list of choices.
+/// The most bytes in which at most 256 choices are stored: 256 choices of at most 66 bytes each, behind 3.
+pub const MAX_STORED: usize = 16_899;
+
+/// The bytes that the database stores for a list of choices, in version 2.
 pub fn encode(alloc: Global, list: &Choices) -> Result<Octets, NoMemory>
     requires { IsWritable list.now }
     ensures { IfOk result (Stored list.now) }
 {
     let mut out = Octets::empty(alloc);
+    push_header(&mut out, list.len())?;
     for choice in list.as_slice() {
         push_choice(&mut out, choice)?;
     }

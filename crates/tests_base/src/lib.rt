@@ -36,6 +36,8 @@ mod small;
 #[cfg(test)]
 mod spellings;
 #[cfg(test)]
+mod stored;
+#[cfg(test)]
 mod supplies;
 #[cfg(test)]
 mod values;

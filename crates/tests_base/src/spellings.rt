@@ -1,4 +1,4 @@
-//! Lists of choices as text and as stored bytes, with the places where neither can be read.
+//! Lists of choices as text, with the places where none can be read, and the tables that stored bytes share with it.
 
 ghost use Rattle.std.specs.Prelude.{IfOk};
 ghost use Rattle.pt_wire.specs.Limits.{IsWritable};
@@ -7,14 +7,14 @@ use crate::expect::expect;
 use crate::sample::Sample::{self, Bytes, Flag, Number, Text};
 use crate::sample::choices_of;
 use pt_choice::{Choices, NoMemory, Octets};
-use pt_wire::{MAX_PRINTED, WireFault, decode, encode, print_choices, read_choices};
+use pt_wire::{MAX_PRINTED, WireFault, print_choices, read_choices};
 use std::alloc::Global;
 
-/// Lists of choices, with their text and the bytes that store them.
-const SPELLINGS: [(&[Sample], &[u8], &[u8]); 10] = [
-    (&[], b"-", b""),
-    (&[Number(10)], b"i10", b"\x02\x14"),
-    (&[Number(573)], b"i573", b"\x02\xfa\x08"),
+/// Lists of choices, with their text, the header of the entry that stores them, and the bytes behind it.
+pub const SPELLINGS: [(&[Sample], &[u8], &[u8], &[u8]); 10] = [
+    (&[], b"-", b"\xf2\x00\x00", b""),
+    (&[Number(10)], b"i10", b"\xf2\x01\x00", b"\x02\x14"),
+    (&[Number(573)], b"i573", b"\xf2\x01\x00", b"\x02\xfa\x08"),
     (
         &[
             Number(-3),
@@ -25,32 +25,43 @@ const SPELLINGS: [(&[Sample], &[u8], &[u8]); 10] = [
             Bytes(&[]),
         ],
         b"i-3 bt t0.4.2 x00ff t x",
+        b"\xf2\x06\x00",
         b"\x02\x05\x01\x04\x03\x00\x04\x02\x03\x02\x00\xff\x04\x00\x03\x00",
     ),
-    (&[Flag(false), Flag(true)], b"bf bt", b"\x00\x01"),
+    (
+        &[Flag(false), Flag(true)],
+        b"bf bt",
+        b"\xf2\x02\x00",
+        b"\x00\x01",
+    ),
     (
         &[Number(0), Number(1), Number(-1)],
         b"i0 i1 i-1",
+        b"\xf2\x03\x00",
         b"\x02\x00\x02\x02\x02\x01",
     ),
     (
         &[Number(63), Number(64), Number(-64)],
         b"i63 i64 i-64",
+        b"\xf2\x03\x00",
         b"\x02\x7e\x02\x80\x01\x02\x7f",
     ),
     (
         &[Text(&[255]), Bytes(&[0x9a, 0xf0])],
         b"t255 x9af0",
+        b"\xf2\x02\x00",
         b"\x04\x01\xff\x03\x02\x9a\xf0",
     ),
     (
         &[Number(0xffff_ffff_ffff_ffff)],
         b"i18446744073709551615",
+        b"\xf2\x01\x00",
         b"\x02\xfe\xff\xff\xff\xff\xff\xff\xff\xff\x03",
     ),
     (
         &[Number(-0xffff_ffff_ffff_ffff)],
         b"i-18446744073709551615",
+        b"\xf2\x01\x00",
         b"\x02\xfd\xff\xff\xff\xff\xff\xff\xff\xff\x03",
     ),
 ];
@@ -65,16 +76,6 @@ fn read(alloc: Global, text: &[u8]) -> Result<Choices, WireFault>
     read_choices(alloc, text)
 }
 
-// The list that the bytes store. No bytes of the tables are more.
-fn decoded(alloc: Global, bytes: &[u8]) -> Result<Choices, WireFault>
-    ensures { IfOk result IsWritable }
-{
-    if bytes.len() > MAX_PRINTED {
-        return Err(WireFault::TooLong);
-    }
-    decode(alloc, bytes)
-}
-
 // Whether the text is read as the list, and the list printed as the text.
 fn is_printed(alloc: Global, list: &[Sample], text: &[u8]) -> Result<bool, WireFault> {
     let list = choices_of(alloc, list)?;
@@ -82,24 +83,10 @@ fn is_printed(alloc: Global, list: &[Sample], text: &[u8]) -> Result<bool, WireF
     Ok(read == list && print_choices(alloc, &read)?.as_slice() == text)
 }
 
-// Whether the bytes are read as the list, and the list stored as the bytes.
-fn is_stored(alloc: Global, list: &[Sample], bytes: &[u8]) -> Result<bool, WireFault> {
-    let list = choices_of(alloc, list)?;
-    let read = decoded(alloc, bytes)?;
-    Ok(read == list && encode(alloc, &read)?.as_slice() == bytes)
-}
-
 #[test]
 fn texts_are_read_and_printed(rt: HostRuntime) {
-    for (row, (list, text, _)) in SPELLINGS.iter().enumerate() {
+    for (row, (list, text, _, _)) in SPELLINGS.iter().enumerate() {
         expect(&rt, row, is_printed(rt.alloc(), list, text));
-    }
-}
-
-#[test]
-fn bytes_are_read_and_stored(rt: HostRuntime) {
-    for (row, (list, _, bytes)) in SPELLINGS.iter().enumerate() {
-        expect(&rt, row, is_stored(rt.alloc(), list, bytes));
     }
 }
 
@@ -135,25 +122,7 @@ const OTHER_TEXTS: [(&[u8], u32); 28] = [
     (b"t.", 1),
 ];
 
-/// Bytes that store no list, and the first place from which that is so.
-const OTHER_BYTES: [(&[u8], u32); 11] = [
-    (b"\x05", 0),
-    (b"\x02", 1),
-    (b"\x02\x80\x00", 2),
-    (b"\x02\xff\xff\xff\xff\xff\xff\xff\xff\xff\x03", 10),
-    (b"\x02\xfe\xff\xff\xff\xff\xff\xff\xff\xff\x83", 10),
-    (b"\x02\xfe\xff\xff\xff\xff\xff\xff\xff\xff\x04", 10),
-    (
-        b"\x02\x80\x80\x80\x80\x80\x80\x80\x80\x80\x80\x80\x80\x80\x80\x80\x80\x80\x80\x80\x01",
-        10,
-    ),
-    (b"\x01\x03", 2),
-    (b"\x03\x41", 1),
-    (b"\x04\x02\xff", 3),
-    (b"\x00\x06\x00", 1),
-];
-
-fn fails_at(read: Result<Choices, WireFault>, at: u32) -> Result<bool, WireFault> {
+pub fn fails_at(read: Result<Choices, WireFault>, at: u32) -> Result<bool, WireFault> {
     Ok(read.err() == Some(WireFault::NotSpelling { at }))
 }
 
@@ -164,14 +133,7 @@ fn texts_fail_at_the_least_place(rt: HostRuntime) {
     }
 }
 
-#[test]
-fn bytes_fail_at_the_least_place(rt: HostRuntime) {
-    for (row, (bytes, at)) in OTHER_BYTES.iter().enumerate() {
-        expect(&rt, row, fails_at(decoded(rt.alloc(), bytes), *at));
-    }
-}
-
-/// A text or bytes with a part that stands in it many times.
+/// A text with a part that stands in it many times.
 #[derive(Clone, Copy)]
 struct Long {
     first: &'static [u8],
@@ -180,7 +142,7 @@ struct Long {
     last: &'static [u8],
 }
 
-fn repeated(
+pub fn repeated(
     alloc: Global,
     first: &[u8],
     part: &[u8],
@@ -266,29 +228,7 @@ const LONG_TEXTS: [(Long, Result<usize, WireFault>); 7] = [
     ),
 ];
 
-/// Long bytes, and how many choices each stores.
-const LONG_BYTES: [(Long, Result<usize, WireFault>); 2] = [
-    (
-        Long {
-            first: b"",
-            part: b"\x00",
-            count: 256,
-            last: b"",
-        },
-        Ok(256),
-    ),
-    (
-        Long {
-            first: b"",
-            part: b"\x00",
-            count: 257,
-            last: b"",
-        },
-        Err(WireFault::TooLong),
-    ),
-];
-
-fn has_read(read: Result<Choices, WireFault>, want: Result<usize, WireFault>) -> bool {
+pub fn has_read(read: Result<Choices, WireFault>, want: Result<usize, WireFault>) -> bool {
     read.map(|list| list.len()) == want
 }
 
@@ -301,26 +241,10 @@ fn is_long_text(
     Ok(has_read(read(alloc, text.as_slice()), want))
 }
 
-fn are_long_bytes(
-    alloc: Global,
-    long: Long,
-    want: Result<usize, WireFault>,
-) -> Result<bool, NoMemory> {
-    let bytes = written(alloc, long)?;
-    Ok(has_read(decoded(alloc, bytes.as_slice()), want))
-}
-
 #[test]
 fn long_texts_are_read_or_refused(rt: HostRuntime) {
     for (row, (long, want)) in LONG_TEXTS.iter().enumerate() {
         expect(&rt, row, is_long_text(rt.alloc(), *long, *want));
-    }
-}
-
-#[test]
-fn long_bytes_are_read_or_refused(rt: HostRuntime) {
-    for (row, (long, want)) in LONG_BYTES.iter().enumerate() {
-        expect(&rt, row, are_long_bytes(rt.alloc(), *long, *want));
     }
 }
 
