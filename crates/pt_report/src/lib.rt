@@ -1,0 +1,15 @@
+//! The printed texts: what is said of a finding, of a run, of a replay, and where nothing is done.
+#![tactic(auto)]
+
+mod ending;
+mod made;
+mod pieces;
+mod refusal;
+mod report;
+mod shown;
+mod sorts;
+
+pub use made::summary;
+pub use refusal::{Refusal, Word, refusal_text};
+pub use report::{block, replayed, tail};
+pub use sorts::{has_failed, has_given_up, has_passed};
