@@ -1,3 +1,4 @@
 pub mod ListLemmas
 pub mod EnabledLemmas
 pub mod StepLemmas
+pub mod NotedLaws

@@ -1,3 +1,4 @@
 pub mod World
 pub mod Enabled
 pub mod Machine
+pub mod Noted

@@ -4,10 +4,12 @@
 mod choosing;
 mod enabling;
 mod holding;
+mod laws;
 mod machine;
 mod sharing;
 mod starting;
 mod stepping;
 mod valuing;
 
+pub use laws::a_machine_notes_its_steps;
 pub use machine::MachineCheck;

@@ -74,7 +74,8 @@ fn is_part(span: &Span, part: &Part) -> bool {
     (span.label, span.from, span.to, span.parent) == *part
 }
 
-fn are_parts(spans: &[Span], parts: &[Part]) -> bool {
+/// Whether the spans are these.
+pub fn are_parts(spans: &[Span], parts: &[Part]) -> bool {
     spans.len() == parts.len()
         && spans
             .iter()

@@ -4,9 +4,9 @@ ghost use Rattle.std.specs.Prelude.{◌≡◌, true, IfOk};
 ghost use Rattle.pt_ast.specs.Plain.{plain_body};
 ghost use Rattle.pt_machine.specs.Machine.{is_machine};
 
-use crate::derived::choices_of;
+use crate::derived::{Part, are_parts, choices_of};
 use crate::expect::expect;
-use crate::plain::Plain::{self, Bad, Below, Is, Num, Plus, Var};
+use crate::plain::Plain::{self, Bad, Below, Is, Num, Plus, ShareBelow, Var};
 use crate::plain::{at, expr, ident};
 use crate::statements::Line::{Assert as Demand, Assume, Draw, Give, Pick, Set};
 use crate::statements::{DIGITS, Line, Pair, are_noted, body};
@@ -31,8 +31,8 @@ type Rule = (
     &'static [Line],
 );
 
-/// A machine as plain data: its invariants and its rules. Each has the states `m`, which is -2, and `n`, which is 0, and the
-/// bundles `in` and `out`.
+/// A machine as plain data: its invariants and its rules. Each has the number 7, the states `m`, which is -2, and `n`, which is
+/// 0, and the bundles `in` and `out`; the nodes of a rule are numbered from 0 on.
 type Made = (&'static [Plain], &'static [Rule]);
 
 const STATES: [(&str, Plain); 2] = [("m", Num(-2)), ("n", Plus("m", 2))];
@@ -119,7 +119,7 @@ fn machine(alloc: Global, made: &Made) -> Result<Machine, NoMemory> {
     let invariants = invariants(alloc, invariants_made)?;
     let rules = rules(alloc, rules_made)?;
     Ok(Machine {
-        num: 0,
+        num: 7,
         states,
         bundles,
         invariants,
@@ -237,9 +237,18 @@ const ASSUMES: Made = (
 
 const ASSERTS: Made = (&[], &[("r", None, None, &[Demand(Is("n", 1))])]);
 
+// What goes wrong once `m` is 0.
+const LATER: Plain = ShareBelow("m", 1);
+
+const RISE: Line = Set("m", Plus("m", 1));
+
+const BAD_LATER: Made = (&[], &[("r", Some(LATER), None, &[RISE])]);
+
+const BAD_AFTER: Made = (&[LATER], &[("r", None, None, &[RISE])]);
+
 const R: Pair = (b"step", b"\"r\"");
 
-const ROWS: [Row; 14] = [
+const ROWS: [Row; 16] = [
     (
         MOVES,
         b"bt i0 i7 bt i1 i0 bt i0 i0 bt i0 i0",
@@ -272,6 +281,20 @@ const ROWS: [Row; 14] = [
     (BREAKS, b"bt i0 bt i0", 2, Failed(Invariant, 3), &[R]),
     (ASSUMES, b"bt i0 bt i0", 2, Rejected, &[R]),
     (ASSERTS, b"bt i0 bt i0", 2, Failed(Assert, 1), &[R]),
+    (
+        BAD_LATER,
+        b"bt i0 bt i0 bt i0",
+        4,
+        Failed(Division, 2),
+        &[R, R],
+    ),
+    (
+        BAD_AFTER,
+        b"bt i0 bt i0 bt i0",
+        4,
+        Failed(Division, 2),
+        &[R, R],
+    ),
 ];
 
 fn is_recorded(alloc: Global, row: &Row) -> Result<bool, NoMemory> {
@@ -288,6 +311,64 @@ fn is_recorded(alloc: Global, row: &Row) -> Result<bool, NoMemory> {
 fn machines_end_and_note(rt: HostRuntime) {
     for (row, machine) in ROWS.iter().enumerate() {
         expect(&rt, row, is_recorded(rt.alloc(), machine));
+    }
+}
+
+/// A machine of at most three steps: the choices, and the spans. That of the machine has the label 46, that of a step 47, and that
+/// of a rule's first node 32.
+type Spanned = (Made, &'static [u8], &'static [Part]);
+
+const ONE_STEP: &[Part] = &[(46, 0, 2, None), (47, 0, 2, Some(0))];
+
+const TWO_STEPS: &[Part] = &[(46, 0, 4, None), (47, 0, 2, Some(0)), (47, 2, 4, Some(0))];
+
+const SPANS: [Spanned; 9] = [
+    (
+        MOVES,
+        b"bt i0 i7 bt i1 i0 bt i0 i0 bt i0 i0",
+        &[
+            (46, 0, 9, None),
+            (47, 0, 3, Some(0)),
+            (32, 2, 3, Some(1)),
+            (47, 3, 6, Some(0)),
+            (32, 5, 6, Some(3)),
+            (47, 6, 9, Some(0)),
+            (32, 8, 9, Some(5)),
+        ],
+    ),
+    (
+        MOVES,
+        b"bt i0 i7 bf",
+        &[
+            (46, 0, 4, None),
+            (47, 0, 3, Some(0)),
+            (32, 2, 3, Some(1)),
+            (47, 3, 4, Some(0)),
+        ],
+    ),
+    (
+        MOVES,
+        b"bt i0",
+        &[(46, 0, 2, None), (47, 0, 2, Some(0)), (32, 2, 2, Some(1))],
+    ),
+    (ONCE, b"bt i0 bt i0", ONE_STEP),
+    (NEVER, b"-", &[(46, 0, 0, None)]),
+    (BROKEN, b"-", &[(46, 0, 0, None)]),
+    (BREAKS, b"bt i0 bt i0", ONE_STEP),
+    (BAD_LATER, b"bt i0 bt i0 bt i0", TWO_STEPS),
+    (BAD_AFTER, b"bt i0 bt i0 bt i0", TWO_STEPS),
+];
+
+fn is_spanned(alloc: Global, row: &Spanned) -> Result<bool, NoMemory> {
+    let (made, spelled, parts) = *row;
+    let rec = record(alloc, &made, 3, &choices_of(alloc, spelled))?;
+    Ok(are_parts(rec.spans.as_slice(), parts))
+}
+
+#[test]
+fn machines_have_their_spans(rt: HostRuntime) {
+    for (row, machine) in SPANS.iter().enumerate() {
+        expect(&rt, row, is_spanned(rt.alloc(), machine));
     }
 }
 

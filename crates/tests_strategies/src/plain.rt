@@ -20,6 +20,8 @@ pub enum Plain {
     Plus(&'static str, i64),
     /// What is never evaluated: a division by 0.
     Bad,
+    /// Whether a hundred divided by the name's number is below this one, which faults where that is 0.
+    ShareBelow(&'static str, i64),
 }
 
 /// A strategy as plain data, which is numbered from 0 on in the order in which it is written.
@@ -82,6 +84,15 @@ fn one_tail(alloc: Global, op: Op, number: i64) -> Result<Tails, NoMemory> {
     Ok(tails)
 }
 
+fn share_below(alloc: Global, text: &str, number: i64) -> Result<Expr, NoMemory> {
+    let mut tails = Tails::empty(alloc);
+    tails.push(Tail::of(at(2), Op::Div, Expr::var(at(2), name(alloc, text)?)))?;
+    let hundred = boxed_expr(alloc, Expr::num(at(2), 100))?;
+    let share = boxed_expr(alloc, Expr::prod(at(2), hundred, tails))?;
+    let right = boxed_expr(alloc, Expr::num(at(2), number))?;
+    Ok(Expr::compare(at(2), share, CompareOp::Lt, right))
+}
+
 fn compare(alloc: Global, text: &str, op: CompareOp, number: i64) -> Result<Expr, NoMemory> {
     let right = boxed_expr(alloc, Expr::num(at(2), number))?;
     Ok(Expr::compare(at(2), var(alloc, text)?, op, right))
@@ -101,6 +112,7 @@ pub fn expr(alloc: Global, plain: Plain) -> Result<Expr, NoMemory> {
             let one = boxed_expr(alloc, Expr::num(at(2), 1))?;
             Ok(Expr::prod(at(2), one, one_tail(alloc, Op::Div, 0)?))
         }
+        Plain::ShareBelow(text, number) => share_below(alloc, text, number),
     }
 }
 
