@@ -33,19 +33,19 @@ use Rattle.pt_machine.specs.Noted.{HoldIn, IsEnabledOf, AreNotesAfter, AreStepNo
 all-true : (invariants : List InvariantTree) (env : List Binding) (none : Unit {0}) → held invariants env ≡ Ok none →
     All (λ invariant. Holds invariant.cond env) invariants
 all-true [] env none is = All-nil (λ (invariant : InvariantTree). Holds invariant.cond env)
-all-true (invariant ∷ others) env none is = at (evaluated invariant.cond env) refl is
+all-true (invariant ∷ others) env none is = at (all-true others env none) (evaluated invariant.cond env) refl is
   where
-    true-first : (truth : Val) → evaluated invariant.cond env ≡ Ok truth → (is_true : Bool) → truth_of truth ≡ is_true →
-        (if is_true then held others env else Err (Suite what.Invariant invariant.at)) ≡ Ok none → All (λ (i : InvariantTree). Holds i.cond env) (invariant ∷ others)
-    true-first truth found true holds later =
-        All-cons (λ (i : InvariantTree). Holds i.cond env) invariant others (truth, found, holds) (all-true others env none later)
-    true-first truth found false holds later = cc
+    first-true : (held others env ≡ Ok none → All (λ (i : InvariantTree). Holds i.cond env) others) → (truth : Val) → evaluated invariant.cond env ≡ Ok truth →
+        (is_true : Bool) → truth_of truth ≡ is_true → (if is_true then held others env else Err (Suite what.Invariant invariant.at)) ≡ Ok none →
+        All (λ (i : InvariantTree). Holds i.cond env) (invariant ∷ others)
+    first-true rest truth found true holds later = All-cons (λ (i : InvariantTree). Holds i.cond env) invariant others (truth, found, holds) (rest later)
+    first-true rest truth found false holds later = cc
 
-    at : (found : Result Val Origin) → evaluated invariant.cond env ≡ found →
+    at : (held others env ≡ Ok none → All (λ (i : InvariantTree). Holds i.cond env) others) → (found : Result Val Origin) → evaluated invariant.cond env ≡ found →
         on_ok found (λ truth. if truth_of truth then held others env else Err (Suite what.Invariant invariant.at)) ≡ Ok none →
         All (λ (i : InvariantTree). Holds i.cond env) (invariant ∷ others)
-    at (Ok truth) found later = true-first truth found (truth_of truth) refl later
-    at (Err origin) found later = cc
+    at rest (Ok truth) found later = first-true rest truth found (truth_of truth) refl later
+    at rest (Err origin) found later = cc
 
 -- one of some rules is one of more
 of-more : (first : RuleTree) (others : List RuleTree) (world : World) (rule : RuleTree) → IsEnabledOf others world rule → IsEnabledOf (first ∷ others) world rule
@@ -54,20 +54,20 @@ of-more first others world rule is = ((suc is.0.0, omega (arith, is.0.1), is.0.2
 -- the rules that are found are enabled
 all-enabled : (rules : List RuleTree) (world : World) (found : List RuleTree) → enabled_rules rules world ≡ Ok found → All (IsEnabledOf rules world) found
 all-enabled [] world found is = let none : [] ≡ found = cc in subst (All (IsEnabledOf [] world)) none (All-nil (IsEnabledOf [] world))
-all-enabled (rule ∷ others) world found is = at (is_enabled rule world) (enabled_rules others world) refl refl is
+all-enabled (rule ∷ others) world found is =
+    at (λ later is. All-weaker (IsEnabledOf others world) (IsEnabledOf (rule ∷ others) world) (of-more rule others world) later (all-enabled others world later is))
+    (is_enabled rule world) (enabled_rules others world) refl refl is
   where
-    behind : (later : List RuleTree) → enabled_rules others world ≡ Ok later → All (IsEnabledOf (rule ∷ others) world) later
-    behind later is = All-weaker (IsEnabledOf others world) (IsEnabledOf (rule ∷ others) world) (of-more rule others world) later (all-enabled others world later is)
-
-    at : (first : Result Bool Origin) (rest : Result (List RuleTree) Origin) → is_enabled rule world ≡ first → enabled_rules others world ≡ rest →
+    at : ((later : List RuleTree) → enabled_rules others world ≡ Ok later → All (IsEnabledOf (rule ∷ others) world) later) →
+        (first : Result Bool Origin) (rest : Result (List RuleTree) Origin) → is_enabled rule world ≡ first → enabled_rules others world ≡ rest →
         on_ok first (λ enabled. on_ok rest (λ later. Ok (if enabled then rule ∷ later else later))) ≡ Ok found → All (IsEnabledOf (rule ∷ others) world) found
-    at (Err origin) rest first-is rest-is is = cc
-    at (Ok true) (Err origin) first-is rest-is is = cc
-    at (Ok false) (Err origin) first-is rest-is is = cc
-    at (Ok true) (Ok later) first-is rest-is is =
+    at behind (Err origin) rest first-is rest-is is = cc
+    at behind (Ok true) (Err origin) first-is rest-is is = cc
+    at behind (Ok false) (Err origin) first-is rest-is is = cc
+    at behind (Ok true) (Ok later) first-is rest-is is =
         let same : rule ∷ later ≡ found = cc in subst (All (IsEnabledOf (rule ∷ others) world)) same
         (All-cons (IsEnabledOf (rule ∷ others) world) rule later ((0, omega arith, refl), first-is) (behind later rest-is))
-    at (Ok false) (Ok later) first-is rest-is is =
+    at behind (Ok false) (Ok later) first-is rest-is is =
         let same : later ≡ found = cc in subst (All (IsEnabledOf (rule ∷ others) world)) same (behind later rest-is)
 
 -- what all of a list are, one by its number is
