@@ -1,4 +1,4 @@
 mod CountLemmas
 mod LeastLemmas
 mod OnceLemmas
-mod AgreeLemmas
+pub mod AgreeLemmas

@@ -1,0 +1,6 @@
+mod AgreeLemmas
+mod BlockLemmas
+mod FinishLemmas
+mod ReadyLemmas
+mod TurnLemmas
+mod TurnsLemmas
