@@ -1,11 +1,12 @@
-use Rattle.std.proofs.Common.{◌∙◌, sym}
+use Rattle.std.proofs.Common.{map}
 use Rattle.pt_turns.proofs.ReadyLemmas.{item-ready}
-use Rattle.pt_turns.proofs.TurnsLemmas.{next-turns, all-turns}
+use Rattle.pt_turns.proofs.TurnsLemmas.{next-turns}
 use Rattle.pt_turns.proofs.turns.examine_all.Goals as goal
 
 pub examine_item-requires-clause-ready : goal.examine_item-requires-clause-ready
 examine_item-requires-clause-ready g c κs within =
-    item-ready _ c.args.items.now c.loop-item.item-index c.item-item.result c.loop-item-test.true c.item-item.is c.requires.ready
+    item-ready (map g.C.Check.name c.args.checks.now) c.args.items.now c.loop-item.item-index c.item-item.result c.loop-item-test.true c.item-item.is
+    c.requires.ready
 
 pub loop-item-preserved : goal.loop-item-preserved
 loop-item-preserved g c =
