@@ -12,6 +12,8 @@ ghost use Rattle.pt_item.specs.Item.{IsHandedIn, OfItem};
 ghost use Rattle.pt_item.specs.Noted.{NotedBy};
 
 use pt_case::Check;
+use pt_machine::a_machine_notes_its_steps;
+use pt_prop::a_property_notes_what_it_draws;
 
 /// Where a suite is well typed, each of its items that asks for a check has one of its name among those that are handed in.
 pub fn typed_items_are_handed_in()
@@ -22,4 +24,7 @@ pub fn typed_items_are_handed_in()
 pub fn an_item_notes_what_it_draws<C: Check>(checks: &[C])
     ensures { (item : ItemTree) (source : Source) (rec : Record) →
         OfItem C.name C.step checks.now item (λ says. IsRecordOver says source rec) → NotedBy item (is_pass rec.ending) rec.notes }
-{}
+{
+    a_property_notes_what_it_draws();
+    a_machine_notes_its_steps();
+}

@@ -1,5 +1,6 @@
 -- One item's turn, by what is found out of its check.
-use Rattle.std.proofs.Common.{◌≡◌, ℕ, Bool, true, false, List, [], sym, subst}
+use Rattle.std.proofs.Common.{◌≡◌, ℕ, Bool, true, false, List, [], Result, Ok, Err, subst}
+use Rattle.std.specs.Prelude.{IfOk}
 use Rattle.pt_choice.specs.declared.choice.Choice.{Choice}
 use Rattle.pt_case.specs.declared.ending.Ending.{Ending}
 use Rattle.pt_case.specs.declared.ending.Ending.TheVariants.{Pass, Reject, Overrun, Fail}
@@ -49,3 +50,9 @@ module _ {C : Type 0} (name : C → List ℕ) (step : C → List Choice → Answ
             check is (subst P is.named found, replays);
         noted = shows-notes finding.verdict replays;
       }
+
+  pub result-turn : {E : Type 0} (seed : ℕ) (result : Result Finding E) →
+      IfOk result (IsFinding (check_step step check) (check_name name check) seed item.settings.runs item.settings.shrink []) →
+      IfOk result (λ finding. ReplaysItself (check_step step check) finding.verdict) → IfOk result (Turn name step checks seed [] item)
+  result-turn seed (Ok finding) found replays = turn-of-check seed finding found replays
+  result-turn seed (Err why) found replays = tt
