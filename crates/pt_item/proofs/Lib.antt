@@ -1,3 +1,4 @@
 pub mod ItemLemmas
 pub mod NamedLemmas
 mod NotesLemmas
+pub mod Shared

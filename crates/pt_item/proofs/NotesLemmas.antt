@@ -18,9 +18,9 @@ use Rattle.pt_item.specs.Noted.{NotedIn}
 
 module _ {C : Type 0} (name : C → List ℕ) (step : C → List Choice → Answer → Type 0) (checks : List C)
     (of-property : (stmts : List StmtTree) (source : Source) (rec : Record) → IsRecordOver (plan_says (property_plan stmts)) source rec →
-        IsNoted (is_pass rec.ending) stmts [] rec.notes)
+    IsNoted (is_pass rec.ending) stmts [] rec.notes)
     (of-machine : (machine : MachineTree) (steps : ℕ) (source : Source) (rec : Record) → IsRecordOver (plan_says (machine_plan machine steps)) source rec →
-        AreMachineNotes (is_pass rec.ending) machine steps rec.notes) where
+    AreMachineNotes (is_pass rec.ending) machine steps rec.notes) where
   pub body-notes : (wanted : List ℕ) (settings : Settings) (body : BodyTree) (source : Source) (rec : Record) →
       OfBody name step checks wanted settings body (λ says. IsRecordOver says source rec) → NotedIn settings body (is_pass rec.ending) rec.notes
   body-notes wanted settings Check_of source rec is = tt

@@ -40,7 +40,7 @@ module _ {C : Type 0} (name : C → List ℕ) (step : C → List Choice → Answ
   pub result-finish : {E : Type 0} (new : Written) (result : Result Reported E) → Ended name step checks seed items (All findings) old mid →
       IfOk result (λ reported. reported.findings ≡ findings) →
       IfOk result (λ reported. ((reported.status ≡ status_of findings) × Appends mid.bytes (tail findings) new.bytes × (new.faults ≡ mid.faults))
-          ⊎ ((reported.status ≡ 5) × AppendsPart mid.bytes (tail findings) new.bytes × Rose mid.faults new.faults)) →
+      ⊎ ((reported.status ≡ 5) × AppendsPart mid.bytes (tail findings) new.bytes × Rose mid.faults new.faults)) →
       IfOk result (λ reported. Finishes name step checks seed items reported.status reported.findings old new)
   result-finish new (Ok reported) all same ended = all-finish new reported.status reported.findings all same ended
   result-finish new (Err why) all same ended = tt

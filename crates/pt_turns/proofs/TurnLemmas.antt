@@ -30,7 +30,7 @@ failure-no-pass (Fail origin) is = cc
 module _ {C : Type 0} (name : C → List ℕ) (step : C → List Choice → Answer → Type 0) (checks : List C) (item : ItemTree) (check : ItemCheck C)
     (is : IsCheckOf name checks item check)
     (notes : (item : ItemTree) (source : Source) (rec : Record) → OfItem name step checks item (λ says. IsRecordOver says source rec) →
-        NotedBy item (is_pass rec.ending) rec.notes) where
+    NotedBy item (is_pass rec.ending) rec.notes) where
   shows-notes : (verdict : Verdict) → ReplaysItself (check_step step check) verdict → ShowsItsNotes item verdict
   shows-notes Passed replays = tt
   shows-notes GaveUp replays = tt

@@ -59,17 +59,13 @@ pub fn report<R: Threads + Sync, C: Check, K: Sink>(
 }
 
 // Writes the tail of the findings, and ends with their status.
-fn add_tail<K: Sink>(
-    alloc: Global,
-    findings: Findings,
-    sink: &mut K,
-) -> Result<Reported, NoMemory>
+fn add_tail<K: Sink>(alloc: Global, findings: Findings, sink: &mut K) -> Result<Reported, NoMemory>
     ensures same { IfOk result (λ reported. reported.findings ≡ findings) }
     ensures ended { IfOk result (λ reported.
         ((reported.status ≡ status_of findings) × Appends (K.shows sink.old).bytes (tail findings) (K.shows sink.new).bytes
-            × ((K.shows sink.new).faults ≡ (K.shows sink.old).faults))
+        × ((K.shows sink.new).faults ≡ (K.shows sink.old).faults))
         ⊎ ((reported.status ≡ 5) × AppendsPart (K.shows sink.old).bytes (tail findings) (K.shows sink.new).bytes
-            × Rose (K.shows sink.old).faults (K.shows sink.new).faults)) }
+        × Rose (K.shows sink.old).faults (K.shows sink.new).faults)) }
     ensures nothing { OnErr result (sink.new ≡ sink.old) }
     ensures later { (K.shows sink.old).faults ≤ (K.shows sink.new).faults }
 {

@@ -12,5 +12,5 @@ pub loop-item-preserved : goal.loop-item-preserved
 loop-item-preserved g c =
     let inv = c.loop-item.invariant in
     let next = next-turns _ _ _ _ c.args.items.now c.loop-item.findings c.push.new.self c.item-item.result c.in_ok-examine_item.field-0
-        c.loop-item.item-index inv.counted c.loop-item-test.true c.item-item.is c.in_ok-push.ensures.ok inv.turns c.in_ok-examine_item.ensures in
+    c.loop-item.item-index inv.counted c.loop-item-test.true c.item-item.is c.in_ok-push.ensures.ok inv.turns c.in_ok-examine_item.ensures in
     record { counted = next.0; turns = next.1 }

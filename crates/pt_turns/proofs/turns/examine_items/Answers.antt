@@ -14,7 +14,7 @@ loop-item-preserved g c =
     let inv = c.loop-item.invariant in
     let pushed = c.in_ok-push.ensures.ok in
     let next = next-turns _ _ _ _ c.args.items.now c.loop-item.findings c.push.new.self c.item-item.result c.in_ok-finding.finding
-        c.loop-item.item-index inv.counted c.loop-item-test.true c.item-item.is pushed inv.turns c.in_ok-finding.ensures in
+    c.loop-item.item-index inv.counted c.loop-item-test.true c.item-item.is pushed inv.turns c.in_ok-finding.ensures in
     record {
       counted = next.0;
       turns = next.1;
@@ -28,8 +28,9 @@ returns-in_default-clause-ended g c =
     let inv = c.loop-item.invariant in
     let pushed = c.in_ok-push.ensures.ok in
     let next = next-turns _ _ _ _ c.args.items.now c.loop-item.findings c.push.new.self c.item-item.result c.in_ok-finding.finding
-        c.loop-item.item-index inv.counted c.loop-item-test.true c.item-item.is pushed inv.turns c.in_ok-finding.ensures in
-    (rw next.0 next.1,
-    last-cut _ _ _ c.loop-item.findings c.push.new.self c.in_ok-finding.finding c.in_ok-text.text pushed inv.written c.in_ok-text.ensures
-        (rw c.as_slice.ensures at c.in_default.ensures.part),
-    rw inv.quiet at c.in_default.ensures.cause)
+    c.loop-item.item-index inv.counted c.loop-item-test.true c.item-item.is pushed inv.turns c.in_ok-finding.ensures in (
+      rw next.0 next.1,
+      last-cut _ _ _ c.loop-item.findings c.push.new.self c.in_ok-finding.finding c.in_ok-text.text pushed inv.written c.in_ok-text.ensures
+          (rw c.as_slice.ensures at c.in_default.ensures.part),
+      rw inv.quiet at c.in_default.ensures.cause,
+    )
