@@ -7,7 +7,7 @@ use pt_parse::read_suite;
 use pt_val::{Name, NameStop, Names, Place};
 use std::alloc::Global;
 
-const SUITE: &[u8] = b"# every construct of a small suite
+const SUITE: &[u8] = b"# a suite with an item of each kind
 property commutes {
   draw a = ints(-1000, 1000);
   draw b = ints(-1000, 1000);
@@ -52,7 +52,7 @@ check never runs 5";
 
 /// What became of a text.
 #[derive(Clone, Copy, Debug, PartialEq, Eq)]
-enum Outcome {
+pub(crate) enum Outcome {
     Sealed,
     Refused(TypeFault),
     Unread,
@@ -82,7 +82,7 @@ fn read_and_checked(alloc: Global, text: &[u8]) -> Result<Outcome, NameStop> {
     }
 }
 
-fn comes_to(alloc: Global, text: &[u8], wanted: Outcome) -> Result<bool, NameStop> {
+pub(crate) fn comes_to(alloc: Global, text: &[u8], wanted: Outcome) -> Result<bool, NameStop> {
     Ok(read_and_checked(alloc, text)? == wanted)
 }
 

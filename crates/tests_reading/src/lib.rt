@@ -18,4 +18,6 @@ mod suites;
 #[cfg(test)]
 mod tokens;
 #[cfg(test)]
+mod typing_faults;
+#[cfg(test)]
 mod words;
