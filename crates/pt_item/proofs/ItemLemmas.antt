@@ -1,17 +1,16 @@
 -- What is true of an item's check is true of the item.
-use Rattle.std.proofs.Common.{◌≡◌, ℕ, List, map, sym, subst}
-use Rattle.std.specs.List.{AllByRecursion, Contains}
+use Rattle.std.proofs.Common.{ℕ, List, sym, subst}
+use Rattle.std.specs.List.{AllByRecursion}
 use Rattle.std.specs.Prelude.{[], ◌∷◌}
 use Rattle.pt_choice.specs.declared.choice.Choice.{Choice}
 use Rattle.pt_case.specs.Step.{Answer}
-use Rattle.pt_ast.specs.declared.ident.Ident.{Ident}
-use Rattle.pt_ast.specs.Plain.{plain_stmt, plain_machine}
+use Rattle.pt_ast.specs.Plain.{plain_machine}
 use Rattle.pt_ast.specs.Suites.{IsTypedBody, IsTypedItem}
-use Rattle.pt_ast.specs.Trees.{BodyTree, Check_of, ItemTree}
+use Rattle.pt_ast.specs.Trees.{BodyTree, ItemTree}
 use Rattle.pt_plan.specs.Says.{plan_says}
 use Rattle.pt_machine.specs.Machine.{machine_plan}
 use Rattle.pt_item.specs.Item.{IsHandedIn, OfBody, OfItem}
-use Rattle.pt_item.specs.Check.{check_step, Tests, IsCheckOf}
+use Rattle.pt_item.specs.Check.{check_step, IsCheckOf}
 use Rattle.pt_item.specs.declared.item_check.ItemCheck.{ItemCheck}
 use Rattle.pt_item.specs.declared.item_check.ItemCheck.TheVariants.{Property, Machine, Handed}
 

@@ -1,5 +1,13 @@
+use Rattle.pt_ast.proofs.Shared.{trees_cross}
+use Rattle.pt_item.proofs.Shared.{check_send, check_sync}
 use Rattle.pt_turns.proofs.TurnLemmas.{result-turn}
 use Rattle.pt_turns.proofs.examining.examine_item.Goals as goal
+
+pub examine-requires-send-C : goal.examine-requires-send-C
+examine-requires-send-C g c κs within = search (trees_cross, check_send) depth 100 fits 20000
+
+pub examine-requires-sync-C : goal.examine-requires-sync-C
+examine-requires-sync-C g c κs within = search (trees_cross, check_sync) depth 100 fits 20000
 
 pub returns : goal.returns
 returns g c =
