@@ -1,7 +1,7 @@
 -- What the steps of a machine note.
-use Rattle.std.proofs.Common.{◌≡◌, ℕ, zero, suc, ◌<◌, Bool, true, false, Option, Some, None, Result, Ok, Err, List, [], ◌∷◌, length, inl, inr, refl, sym, subst, arith}
-use Rattle.std.specs.Prelude.{◌⊎◌, slice_get, if◌then◌else◌}
-use Rattle.std.specs.List.{All, Contains}
+use Rattle.std.proofs.Common.{◌≡◌, ℕ, zero, suc, Bool, true, false, Option, Some, None, Result, Ok, Err, List, [], ◌∷◌, inl, inr, refl, sym, subst, arith}
+use Rattle.std.specs.Prelude.{slice_get, if◌then◌else◌}
+use Rattle.std.specs.List.{All}
 use Rattle.std.proofs.lemmas.List.Elements.{All-nil, All-cons, All-head, All-tail, All-weaker}
 use Rattle.pt_val.specs.declared.val.Val.{Val}
 use Rattle.pt_case.specs.declared.ending.Ending.{Ending}
@@ -14,11 +14,10 @@ use Rattle.pt_ast.specs.Trees.{InvariantTree, RuleTree, MachineTree}
 use Rattle.pt_eval.specs.Parts.{truth_of}
 use Rattle.pt_eval.specs.Value.{evaluated}
 use Rattle.pt_plan.specs.Asked.{asked_flag, flag_in, integer_in}
-use Rattle.pt_plan.specs.Plan.{Plan, Gives, Rejects, Faults, Asks, Enters, Leaves, Notes, and_then, within}
+use Rattle.pt_plan.specs.Plan.{Plan, Gives, Rejects, Faults, Asks, Enters, Leaves, Notes, and_then}
 use Rattle.pt_plan.proofs.CameLemmas.{and_then-and_then}
 use Rattle.pt_strat.specs.declared.world.World.{World}
 use Rattle.pt_strat.specs.Bounds.{count_of}
-use Rattle.pt_strat.specs.Labels.{part_label}
 use Rattle.pt_strat.specs.Parts.{by_value, given}
 use Rattle.pt_strat.specs.Statement.{body_plan}
 use Rattle.pt_prop.specs.Noted.{Holds, AreNoted}
@@ -27,7 +26,7 @@ use Rattle.pt_prop.proofs.NotedLaws.{notes-body}
 use Rattle.pt_machine.specs.World.{on_ok, held, first_world}
 use Rattle.pt_machine.specs.Enabled.{is_enabled, enabled_rules}
 use Rattle.pt_machine.specs.Machine.{step_note, left_by, checked, step_plan, step_if, part_plan, turn_plan, or_passed, steps_plan, machine_plan}
-use Rattle.pt_machine.specs.Noted.{HoldIn, IsEnabledOf, AreNotesAfter, AreStepNotes, AreMachineNotes}
+use Rattle.pt_machine.specs.Noted.{IsEnabledOf, AreNotesAfter, AreStepNotes, AreMachineNotes}
 
 -- invariants that are held are true
 all-true : (invariants : List InvariantTree) (env : List Binding) (none : Unit {0}) → held invariants env ≡ Ok none →
