@@ -1,4 +1,4 @@
--- What is true of an item's check is true of the item.
+-- What is true of an item's check is true of the item, and a well typed item has its check.
 use Rattle.std.proofs.Common.{ℕ, List, sym, subst}
 use Rattle.std.specs.List.{AllByRecursion}
 use Rattle.std.specs.Prelude.{[], ◌∷◌}
@@ -16,16 +16,13 @@ use Rattle.pt_item.specs.declared.item_check.ItemCheck.TheVariants.{Property, Ma
 
 module _ {C : Type 0} (name : C → List ℕ) (step : C → List Choice → Answer → Type 0) (checks : List C) (item : ItemTree)
     (Says : (List Choice → Answer → Type 0) → Type 0) where
-  tests-item : (check : ItemCheck C) → IsCheckOf name checks item check → Says (check_step step check) → OfItem name step checks item Says
-  tests-item (Property property) is said = subst (λ body. OfBody name step checks item.name.name item.settings body Says) (sym is.tests) said
-  tests-item (Machine machine) is said =
+  pub said-of-item : (check : ItemCheck C) → IsCheckOf name checks item check → Says (check_step step check) → OfItem name step checks item Says
+  said-of-item (Property property) is said = subst (λ body. OfBody name step checks item.name.name item.settings body Says) (sym is.tests) said
+  said-of-item (Machine machine) is said =
       subst (λ body. OfBody name step checks item.name.name item.settings body Says) (sym is.tests.0)
       (subst (λ steps. Says (plan_says (machine_plan (plain_machine machine.machine.now) steps))) is.tests.1 said)
-  tests-item (Handed check) is said =
+  said-of-item (Handed check) is said =
       subst (λ body. OfBody name step checks item.name.name item.settings body Says) (sym is.tests.0) (is.tests.1, check.now, is.tests.2, is.named, said)
-
-  pub said-of-item : (check : ItemCheck C) → IsCheckOf name checks item check → Says (check_step step check) → OfItem name step checks item Says
-  said-of-item check is said = tests-item check is said
 
 -- an item that is well typed and asks for a check has one of its name
 typed-handed-in : (known : List (List ℕ)) (item : ItemTree) → IsTypedItem known item → IsHandedIn known item
