@@ -8,7 +8,8 @@ use Rattle.pt_ast.specs.Trees.{ItemTree}
 use Rattle.pt_item.specs.Item.{IsHandedIn}
 use Rattle.pt_turns.specs.Ready.{IsReady, AreReady}
 
-pub all-ready : (known : List (List ℕ)) (items : List ItemTree) → AllByRecursion IsBoundedItem items → AllByRecursion (IsHandedIn known) items → AreReady known items
+pub all-ready : (known : List (List ℕ)) (items : List ItemTree) → AllByRecursion IsBoundedItem items → AllByRecursion (IsHandedIn known) items →
+    AreReady known items
 all-ready known [] bounded handed = tt
 all-ready known (item ∷ items) bounded handed = ((bounded.0.0, handed.0), all-ready known items bounded.1 handed.1)
 

@@ -10,4 +10,5 @@ returns-in-All-clause-finishes g c =
 pub returns-in-All-clause-memory : goal.returns-in-All-clause-memory
 returns-in-All-clause-memory g c =
     let all = rw c.in-All.is at c.in_ok-findings.ensures.ended in
-    result-short _ _ _ _ _ _ _ c.in-All.findings g.K.Sink.shows c.examine_items.new.sink c.add_tail.new.sink c.add_tail.result refl all c.add_tail.ensures.nothing
+    result-short _ _ _ _ _ _ _ c.in-All.findings g.K.Sink.shows c.examine_items.new.sink c.add_tail.new.sink c.add_tail.result refl all
+    c.add_tail.ensures.nothing
