@@ -8,36 +8,43 @@ function xml(text) {
   return text
 }
 
-function open_case(item) { tests++; body = body "    <testcase classname=\"" suite "\" name=\"" item "\"" }
+# Lines are kept until the counts, which stand before them, are known.
+function keep(line) { lines[++kept] = line }
 
-function error(message, type) {
+# The tag of an item's test case, up to its last mark.
+function begun(item) { tests++; return "    <testcase classname=\"" suite "\" name=\"" item "\"" }
+
+function keep_error(item, message, type) {
   errors++
-  body = body ">\n      <error message=\"" xml(message) "\" type=\"" type "\"/>\n    </testcase>\n"
+  keep(begun(item) ">")
+  keep("      <error message=\"" xml(message) "\" type=\"" type "\"/>")
+  keep("    </testcase>")
 }
 
 # The kind of a failure: what stands in brackets behind its place, or `point`.
 function kind(message) { return match(message, /\([a-z]+\)/) ? substr(message, RSTART + 1, RLENGTH - 2) : "point" }
 
+function end_failure() { keep("</failure>"); keep("    </testcase>"); failed = "" }
+
 BEGIN { suite = xml(ENVIRON["suite"]) }
 
 { last = $0; item = substr($1, 1, length($1) - 1); told = substr($0, length($1) + 2) }
 
-/^[a-z][a-z0-9_]*: passed, / { open_case(item); body = body "/>\n" }
-/^[a-z][a-z0-9_]*: gave up, / { open_case(item); error(told, "gave up") }
+/^[a-z][a-z0-9_]*: passed, / { keep(begun(item) "/>") }
+/^[a-z][a-z0-9_]*: gave up, / { keep_error(item, told, "gave up") }
 /^[a-z][a-z0-9_]*: failed at / {
   failures++; failed = item
-  open_case(item)
-  body = body ">\n      <failure message=\"" xml(told) "\" type=\"" kind(told) "\">"
+  keep(begun(item) ">")
+  keep("      <failure message=\"" xml(told) "\" type=\"" kind(told) "\">")
 }
-/^  / && failed { body = body xml($0) "\n" }
-/^  choices: / && failed {
-  body = body xml(ENVIRON["again"] " " failed " '" substr($0, 12) "'") "\n</failure>\n    </testcase>\n"
-  failed = ""
-}
+/^  / && failed { keep(xml($0)) }
+/^  choices: / && failed { keep(xml(ENVIRON["again"] " " failed " '" substr($0, 12) "'")); end_failure() }
 
 END {
-  if (failed) body = body "</failure>\n    </testcase>\n"
-  if (ENVIRON["status"] >= 2) { open_case("suite"); error(last ? last : "no report", "status " ENVIRON["status"]) }
+  if (failed) end_failure()
+  if (ENVIRON["status"] >= 2) keep_error("suite", last ? last : "no report", "status " ENVIRON["status"])
   printf "  <testsuite name=\"%s\" tests=\"%d\" failures=\"%d\" errors=\"%d\">\n", suite, tests, failures, errors
-  printf "    <properties>\n      <property name=\"seed\" value=\"%s\"/>\n    </properties>\n%s  </testsuite>\n", ENVIRON["seed"], body
+  printf "    <properties>\n      <property name=\"seed\" value=\"%s\"/>\n    </properties>\n", ENVIRON["seed"]
+  for (at = 1; at <= kept; at++) print lines[at]
+  print "  </testsuite>"
 }
