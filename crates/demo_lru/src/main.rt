@@ -27,13 +27,16 @@ use pt_rules::Rule;
 use std::env::Env;
 use std::process::ExitCode;
 use std::rt::Files;
+use std::thread::Threads;
 
 fn main(rt: HostRuntime) -> ExitCode {
     tested(&rt).unwrap_or(ExitCode::from(OUT_OF_MEMORY))
 }
 
 // Makes the checks, and does what the words ask for with them.
-fn tested<R: Env + Files + Print + AllocGlobal>(rt: &R) -> Result<ExitCode, NoMemory> {
+fn tested<R: Env + Files + Print + AllocGlobal + Threads + Sync>(
+    rt: &R,
+) -> Result<ExitCode, NoMemory> {
     let alloc = rt.alloc();
     let cache: Box<dyn Check> = Box::new(alloc, cache_check(alloc)?)?;
     let hex_round_trip: Box<dyn Check> = Box::new(alloc, hex_check(alloc)?)?;
@@ -42,7 +45,7 @@ fn tested<R: Env + Files + Print + AllocGlobal>(rt: &R) -> Result<ExitCode, NoMe
 }
 
 // The same, where those in boxes are made.
-fn tested_with<R: Env + Files + Print + AllocGlobal>(
+fn tested_with<R: Env + Files + Print + AllocGlobal + Threads + Sync>(
     rt: &R,
     cache: Box<dyn Check>,
     hex_round_trip: Box<dyn Check>,

@@ -12,20 +12,24 @@ use std::env::Env;
 use std::io;
 use std::process::ExitCode;
 use std::rt::Files;
+use std::thread::Threads;
 
 /// The exit status where memory ran out.
 pub const OUT_OF_MEMORY: u8 = 7;
 
 /// All that a tester does with these checks, no two of which have one name: does what the words of its command line
 /// ask for, with the files of the machine and its standard output, and answers the exit status.
-pub fn tester<R: Env + Files + Print + AllocGlobal, C: Check>(rt: &R, checks: &[C]) -> ExitCode
+pub fn tester<R: Env + Files + Print + AllocGlobal + Threads + Sync, C: Check>(
+    rt: &R,
+    checks: &[C],
+) -> ExitCode
     requires { HaveOwnNames C.name checks.now }
     ensures { IsStatus (exit_status result) ⊎ (exit_status result ≡ 7) }
 {
     exit_code(over_the_machine(rt, checks))
 }
 
-fn over_the_machine<R: Env + Files + Print + AllocGlobal, C: Check>(
+fn over_the_machine<R: Env + Files + Print + AllocGlobal + Threads + Sync, C: Check>(
     rt: &R,
     checks: &[C],
 ) -> Result<Finish, NoMemory>
@@ -35,7 +39,14 @@ fn over_the_machine<R: Env + Files + Print + AllocGlobal, C: Check>(
     let words = words(rt)?;
     let mut files = RealFiles::of(rt);
     let mut sink = StdSink::of(io::writer(rt));
-    top(rt.alloc(), words.as_slice(), &mut files, &mut sink, checks)
+    top(
+        rt,
+        rt.alloc(),
+        words.as_slice(),
+        &mut files,
+        &mut sink,
+        checks,
+    )
 }
 
 // The status of what was done, or the one that says that memory ran out.

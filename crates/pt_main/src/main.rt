@@ -21,13 +21,16 @@ use sorted_pair::sorted_pair;
 use std::env::Env;
 use std::process::ExitCode;
 use std::rt::Files;
+use std::thread::Threads;
 
 fn main(rt: HostRuntime) -> ExitCode {
     tested(&rt).unwrap_or(ExitCode::from(OUT_OF_MEMORY))
 }
 
 // Makes the checks, and does what the words ask for with them.
-fn tested<R: Env + Files + Print + AllocGlobal>(rt: &R) -> Result<ExitCode, NoMemory> {
+fn tested<R: Env + Files + Print + AllocGlobal + Threads + Sync>(
+    rt: &R,
+) -> Result<ExitCode, NoMemory> {
     let alloc = rt.alloc();
     let never: Box<dyn Check> = Box::new(alloc, Never::of(alloc)?)?;
     let always: Box<dyn Check> = Box::new(alloc, Always::of(alloc)?)?;
@@ -36,7 +39,7 @@ fn tested<R: Env + Files + Print + AllocGlobal>(rt: &R) -> Result<ExitCode, NoMe
 }
 
 // The same, where those in boxes are made.
-fn tested_with<R: Env + Files + Print + AllocGlobal>(
+fn tested_with<R: Env + Files + Print + AllocGlobal + Threads + Sync>(
     rt: &R,
     never: Box<dyn Check>,
     always: Box<dyn Check>,

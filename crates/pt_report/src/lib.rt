@@ -10,6 +10,6 @@ mod shown;
 mod sorts;
 
 pub use made::summary;
-pub use refusal::{Refusal, Word, refusal_text};
+pub use refusal::{Refusal, Word, fixed_text, refusal_text};
 pub use report::{block, replayed, tail};
 pub use sorts::{has_failed, has_given_up, has_passed};

@@ -1,4 +1,6 @@
-ghost use Rattle.std.specs.Prelude.{◌≡◌, IfOk};
+ghost use Rattle.std.specs.Prelude.{◌≡◌, ◌≢◌, IfOk};
+ghost use Rattle.pt_val.specs.declared.place.Place.{Place};
+ghost use Rattle.pt_report.specs.declared.refusal.Word.{Word};
 ghost use Rattle.pt_report.specs.Refusals.{refusal_text, word_text};
 
 use crate::ending::place_text;
@@ -45,15 +47,23 @@ pub fn refusal_text(alloc: Global, refusal: &Refusal) -> Result<Octets, NoMemory
 {
     match *refusal {
         Refusal::Suite(place, word) => suite_line(alloc, place, word),
-        Refusal::Usage => Octets::of(
-            alloc,
-            b"usage: run SUITE SEED WORKERS | replay SUITE NAME CHOICES | make SEED COUNT\n",
-        ),
-        Refusal::Read => Octets::of(alloc, b"suite cannot be read\n"),
-        Refusal::Database => Octets::of(alloc, b"database failed\n"),
-        Refusal::Clash => Octets::of(alloc, b"database clash\n"),
-        Refusal::TooLarge => Octets::of(alloc, b"suite too large\n"),
-        Refusal::UnknownItem => Octets::of(alloc, b"unknown item\n"),
+        _ => Octets::of(alloc, fixed_text(refusal)),
+    }
+}
+
+/// The same of any but a refused suite, whose line alone has a place. It takes no memory.
+pub fn fixed_text(refusal: &Refusal) -> &'static [u8]
+    requires { (place : Place) (word : Word) → refusal.now ≢ Refusal.Suite place word }
+    ensures { result.now ≡ refusal_text refusal.now }
+{
+    match *refusal {
+        Refusal::Usage => { b"usage: run SUITE SEED WORKERS | replay SUITE NAME CHOICES\n" }
+        Refusal::Suite(..) => unreachable!(),
+        Refusal::Read => b"suite cannot be read\n",
+        Refusal::Database => b"database failed\n",
+        Refusal::Clash => b"database clash\n",
+        Refusal::TooLarge => b"suite too large\n",
+        Refusal::UnknownItem => b"unknown item\n",
     }
 }
 

@@ -1,141 +1,177 @@
 -- Where the words ask for what can be done, and no call of the outside fails, it is done.
-use Rattle.std.proofs.Common.{◌≡◌, ◌⊎◌, inl, inr, ℕ, ◌<◌, Bool, true, false, List, sym, ◌∙◌, subst, arith, lit<, if◌then◌else◌, Global}
-use Rattle.std.specs.Prelude.{String}
+use Rattle.std.proofs.Common.{◌≡◌, ◌⊎◌, inl, inr, ℕ, ◌<◌, Bool, true, false, List, refl, sym, ◌∙◌, subst, arith, lit<, if◌then◌else◌, Global}
+use Rattle.std.specs.Prelude.{String, Option, Some, map}
+use Rattle.std.specs.List.{list_all}
 use Rattle.pt_choice.specs.Faults.{Rose}
 use Rattle.pt_choice.specs.declared.choice.Choice.{Choice}
+use Rattle.pt_ast.specs.Trees.{SuiteTree}
+use Rattle.pt_parse.specs.Suites.{Reads, HasFault}
+use Rattle.pt_parse.specs.declared.fault.SuiteFault.{SuiteFault}
+use Rattle.pt_typing.specs.Laws.{SuitesAreDecided}
+use Rattle.pt_typing.specs.SuiteFaults.{FaultInSuite}
 use Rattle.pt_case.specs.Ending.{is_failure}
 use Rattle.pt_case.specs.Step.{Answer}
-use Rattle.pt_io.specs.Files.{Shown}
+use Rattle.pt_case.specs.declared.record.Record.{Record}
+use Rattle.pt_io.specs.Files.{Shown, HasBytes}
 use Rattle.pt_io.specs.Reading.{IsWithinLimit, IsPastLimit}
-use Rattle.pt_run.specs.declared.finding.Verdict.{Verdict}
-use Rattle.pt_run.specs.declared.finding.Verdict.TheVariants.{Passed, GaveUp, Failed}
+use Rattle.pt_io.specs.Sink.{Written, Appends}
+use Rattle.pt_report.specs.Report.{IsReplay}
+use Rattle.pt_report.specs.Sorts.{has_passed}
+use Rattle.pt_report.specs.declared.refusal.Refusal.{Refusal}
+use Rattle.pt_report.specs.declared.refusal.Refusal.TheVariants as refusal
+use Rattle.pt_turns.specs.Ended.{Finishes, Reported, Unwritten}
+use Rattle.pt_run.specs.declared.finish.Finish.{Finish}
 use Rattle.pt_run.specs.declared.message.Message.{Message}
-use Rattle.pt_run.specs.declared.message.Message.TheVariants.{Refused, Reported, Replayed}
-use Rattle.pt_run.specs.declared.refusal.Refusal.{Refusal}
-use Rattle.pt_run.specs.declared.refusal.Refusal.TheVariants.{Usage, Unreadable, TooLarge, NotBuilt, UnknownItem}
-use Rattle.pt_run.specs.Call.{Call, Answers, IsDone, IsQuiet}
-use Rattle.pt_run.specs.Due.{IsAnswer, IsDue, IsRunnable, IsTold, IsUnfound, SaysOf}
-use Rattle.pt_run.specs.Message.{TellsAll, TellsPart, status_of}
-use Rattle.pt_run.specs.Suite.{Names, NamesNone}
-use Rattle.pt_run.specs.Verdict.{has_passed}
-use Rattle.pt_run.specs.Words.{Asked, Run, Replay, Asks, IsItem, suite_of}
+use Rattle.pt_run.specs.declared.message.Message.TheVariants.{Refused, Replayed}
+use Rattle.pt_run.specs.Call.{Call, Answers, HasWanted, IsDone, IsDue, IsQuiet, IsRunnable}
+use Rattle.pt_run.specs.Ends.{Does, Ends, IsItem, Says}
+use Rattle.pt_run.specs.Message.{Tells, TellsAll, TellsPart, status_of}
+use Rattle.pt_run.specs.Suite.{IsFaulty, IsTaken, IsTurnedDown}
+use Rattle.pt_run.specs.Words.{Asked, Run, Replay, Asks, suite_of}
 use Rattle.pt_run.proofs.Messages.{HasBytes-at, HasNone-not}
-use Rattle.pt_run.proofs.Suites.{IsSuite-name}
+
+-- what is asked for is the same, as far as the words tell
+pub record AreAlike (one other : Asked) : Type 0 where
+  pub suites : suite_of one ≡ suite_of other
+  pub wanted : (suite : SuiteTree) → HasWanted other suite → HasWanted one suite
+  pub due : (finish : Finish) (text : List ℕ) → IsDue one finish text → IsDue other finish text
 
 -- two readings of the words ask for the same suite and the same item
-pub Asks-alike : (words : List (String Global)) (one other : Asked) → Asks words one → Asks words other →
-    (suite_of one ≡ suite_of other) × ((name : List ℕ) → IsItem other name → IsItem one name)
-Asks-alike words (Run suite seed workers) (Run suite' seed' workers') one other =
-    let same = sym one.spelled ∙ other.spelled in (cc, λ name is. tt)
-Asks-alike words (Run suite seed workers) (Replay suite' item list) one other = absurd (let same = sym one.spelled ∙ other.spelled in cc)
-Asks-alike words (Replay suite item list) (Run suite' seed workers) one other = absurd (let same = sym one.spelled ∙ other.spelled in cc)
-Asks-alike words (Replay suite item list) (Replay suite' item' list') one other =
-    let same = sym one.spelled ∙ other.spelled in (cc, λ name is. cc)
+pub asks_alike : (words : List (String Global)) (one other : Asked) → Asks words one → Asks words other → AreAlike one other
+asks_alike words (Run suite seed workers) (Run suite' seed' workers') one other =
+    let same = sym one.spelled ∙ other.spelled in
+    record { suites = cc; wanted = λ suite has. tt; due = λ finish text due. due }
+asks_alike words (Run suite seed workers) (Replay suite' item list) one other = absurd (let same = sym one.spelled ∙ other.spelled in cc)
+asks_alike words (Replay suite item list) (Run suite' seed workers) one other = absurd (let same = sym one.spelled ∙ other.spelled in cc)
+asks_alike words (Replay suite item list) (Replay suite' item' list') one other =
+    let same = sym one.spelled ∙ other.spelled in
+    let items : item ≡ item' = cc in
+    record {
+      suites = cc;
+      wanted = λ tree has. (has.0, (has.1.0, has.1.1 ∙ sym items));
+      due = λ finish text due. (due.0, due.1, subst (λ (i : List ℕ). IsReplay i due.0 text) items due.2, due.3);
+    }
 
--- what can be done as it is asked for once can be done as it is asked for again
-runnable_alike : {C : Type 0} (name : C → List ℕ) (checks : List C) (files : Shown) (one other : Asked) →
-    (suite_of one ≡ suite_of other) × ((name : List ℕ) → IsItem other name → IsItem one name) →
-    IsRunnable name checks files other → IsRunnable name checks files one
-runnable_alike name checks files one other alike runnable = record {
+below_passed : (passed : Bool) → (if passed then 0 else 1) < 2
+below_passed true = lit< tt
+below_passed false = lit< tt
+
+below_failed : (failed : Bool) → (if failed then 1 else 0) < 2
+below_failed true = lit< tt
+below_failed false = lit< tt
+
+module _ (one_suite : (bytes : List ℕ) (suite other : SuiteTree) → Reads bytes suite → Reads bytes other → suite ≡ other) (known : List (List ℕ)) where
+  -- the suite that was taken is the file's
+  pub is_suite : (old new : Shown) (file : List ℕ) (suite other : SuiteTree) (content : List ℕ → Option (List ℕ)) (bytes : List ℕ) →
+      IsTaken known old new file suite → old.named ≡ Some content → content file ≡ Some bytes → Reads bytes other → suite ≡ other
+  is_suite old new file suite other content bytes taken told there reads =
+      let here = HasBytes-at old file (λ bytes. IsWithinLimit bytes × Reads bytes suite) content bytes taken.read told there in
+      one_suite bytes suite other here.1 reads
+
+module _ (one_suite : (bytes : List ℕ) (suite other : SuiteTree) → Reads bytes suite → Reads bytes other → suite ≡ other)
+    (not_both : (bytes : List ℕ) (suite : SuiteTree) (fault : SuiteFault) → Reads bytes suite → HasFault bytes fault → ⊥) (decided : SuitesAreDecided)
+    (known : List (List ℕ)) where
+  -- a text that can be taken has no fault
+  no_fault : (bytes : List ℕ) (said : Refusal) (files : Shown) (asked : Asked) (runnable : IsRunnable known files asked) → IsFaulty known runnable.bytes said → ⊥
+  no_fault bytes said files asked runnable (inl (fault, has, is)) = not_both runnable.bytes runnable.suite fault runnable.reads has
+  no_fault bytes said files asked runnable (inr (suite, fault, reads, has, is)) =
+      let same : suite ≡ runnable.suite = one_suite runnable.bytes suite runnable.suite reads runnable.reads in
+      let here : FaultInSuite known runnable.suite fault = subst (λ (s : SuiteTree). FaultInSuite known s fault) same has in
+      (decided known runnable.suite).not_both tt fault runnable.typed here
+
+  -- where no call of the files failed that could fail, the suite is taken
+  pub is_taken : (old new : Shown) (asked : Asked) (said : Refusal) → IsTurnedDown known old new (suite_of asked) said → IsRunnable known old asked →
+      (old.steady ≡ true) ⊎ (Rose old.faults new.faults → ⊥) → ⊥
+  is_taken old new asked refusal.Usage turned runnable quiet = turned
+  is_taken old new asked (refusal.Suite at which) turned runnable quiet =
+      let here = HasBytes-at old (suite_of asked) (λ bytes. IsWithinLimit bytes × IsFaulty known bytes (refusal.Suite at which)) runnable.content runnable.bytes
+      turned.1 runnable.told runnable.there in
+      no_fault runnable.bytes (refusal.Suite at which) old asked runnable here.1
+  is_taken old new asked refusal.Read turned runnable (inl steady) =
+      HasNone-not old (suite_of asked) runnable.content runnable.bytes (turned.1 steady) runnable.told runnable.there
+  is_taken old new asked refusal.Read turned runnable (inr calm) = calm turned.0
+  is_taken old new asked refusal.Database turned runnable quiet = turned
+  is_taken old new asked refusal.Clash turned runnable quiet = turned
+  is_taken old new asked refusal.TooLarge turned runnable quiet =
+      let large = HasBytes-at old (suite_of asked) IsPastLimit runnable.content runnable.bytes turned.1 runnable.told runnable.there in
+      absurd (omega (arith, large, runnable.small))
+  is_taken old new asked refusal.UnknownItem turned runnable quiet = turned
+
+-- the same can be done where the same is asked for
+pub runnable_alike : (known : List (List ℕ)) (files : Shown) (one other : Asked) → AreAlike one other → IsRunnable known files other → IsRunnable known files one
+runnable_alike known files one other alike runnable = record {
   content = runnable.content;
   told = runnable.told;
   bytes = runnable.bytes;
-  there = rw alike.0 runnable.there;
+  there = rw alike.suites runnable.there;
   small = runnable.small;
-  check = runnable.check;
-  runs = runnable.runs;
-  names = runnable.names;
-  item = alike.1 (name runnable.check) runnable.item;
+  suite = runnable.suite;
+  reads = runnable.reads;
+  typed = runnable.typed;
+  has = alike.wanted runnable.suite runnable.has;
 }
 
--- where no call of the files failed that could fail, a check is found
-found_one : {C : Type 0} (name : C → List ℕ) (checks : List C) (old new : Shown) (asked : Asked) (refusal : Refusal) →
-    IsUnfound name checks old new (suite_of asked) refusal → IsRunnable name checks old asked →
-    (old.steady ≡ true) ⊎ (Rose old.faults new.faults → ⊥) → ⊥
-found_one name checks old new asked Usage unfound runnable quiet = absurd unfound
-found_one name checks old new asked Unreadable unfound runnable (inl steady) =
-    HasNone-not old (suite_of asked) runnable.content runnable.bytes (unfound.1 steady) runnable.told runnable.there
-found_one name checks old new asked Unreadable unfound runnable (inr calm) = calm unfound.0
-found_one name checks old new asked TooLarge unfound runnable quiet =
-    let large = HasBytes-at old (suite_of asked) IsPastLimit runnable.content runnable.bytes unfound.1 runnable.told runnable.there in
-    absurd (omega (arith, large, runnable.small))
-found_one name checks old new asked NotBuilt unfound runnable quiet =
-    let none = HasBytes-at old (suite_of asked) (λ bytes. IsWithinLimit bytes × NamesNone name checks bytes) runnable.content runnable.bytes unfound.1 runnable.told runnable.there in
-    none.1 runnable.check runnable.runs runnable.names
-found_one name checks old new asked UnknownItem unfound runnable quiet = absurd unfound
+-- the call came to its end with what is due
+record Came (asked : Asked) (finish : Finish) (old new : Written) : Type 0 where
+  pub below : finish.status < 2
+  pub text : List ℕ
+  pub due : IsDue asked finish text
+  pub written : Appends old.bytes text new.bytes
 
--- so the message is told of one
-pub told_of_one : {C : Type 0} (name : C → List ℕ) (step : C → List Choice → Answer → Type 0) (checks : List C) (old new : Shown)
-    (words : List (String Global)) (message : Message) (asked : Asked) →
-    IsAnswer name step checks old new words message → Asks words asked → IsRunnable name checks old asked →
-    (old.steady ≡ true) ⊎ (Rose old.faults new.faults → ⊥) →
-    (one : Asked) × Asks words one × IsTold name step checks old new one message
-told_of_one name step checks old new words message asked (inl nothing) asks runnable quiet = absurd (nothing.0 asked asks)
-told_of_one {C} name step checks old new words message asked (inr found) asks runnable quiet =
-    (found.0, found.1, of_due found.2)
-  where
-    of_due : IsDue name step checks old new found.0 message → IsTold name step checks old new found.0 message
-    of_due (inl unfound) =
-        absurd (found_one name checks old new found.0 unfound.0 unfound.2 (runnable_alike name checks old found.0 asked (Asks-alike words found.0 asked found.1 asks) runnable) quiet)
-    of_due (inr told) = told
+module _ {C : Type 0} (name : C → List ℕ) (step : C → List Choice → Answer → Type 0) (checks : List C) where
+  -- a record that was told was shown whole
+  of_record : (file wanted : List ℕ) (list : List Choice) (shown : List ℕ) (rec : Record) (finish : Finish) (old new : Written) → shown ≡ wanted →
+      Tells (Replayed shown rec) finish old new → (Rose old.faults new.faults → ⊥) → Came (Replay file wanted list) finish old new
+  of_record file wanted list shown rec finish old new is tells quiet = of_told tells.told
+    where
+      of_told : TellsAll (Replayed shown rec) tells.text finish old new ⊎ TellsPart tells.text finish old new → Came (Replay file wanted list) finish old new
+      of_told (inl all) = record {
+        below = let below = below_failed (is_failure rec.ending) in omega (arith, all.status, below);
+        text = tells.text;
+        due = (rec, all.replayed, subst (λ (i : List ℕ). IsReplay i rec tells.text) is tells.is_text, all.status);
+        written = all.written;
+      }
+      of_told (inr part) = absurd (quiet part.cause)
 
--- the check that is told of has the name of the one that the suite names
-pub same_name : {C : Type 0} (name : C → List ℕ) (step : C → List Choice → Answer → Type 0) (checks : List C) (old new : Shown) (asked : Asked)
-    (message : Message) (told : IsTold name step checks old new asked message) (runnable : IsRunnable name checks old asked) →
-    name runnable.check ≡ name told.check
-same_name name step checks old new asked message told runnable =
-    let here = HasBytes-at old (suite_of asked) (λ bytes. IsWithinLimit bytes × Names name checks bytes told.check told.runs) runnable.content runnable.bytes told.named runnable.told runnable.there in
-    IsSuite-name runnable.bytes _ _ _ _ runnable.names.in_suite here.1.in_suite
+  came : (asked : Asked) (suite : SuiteTree) (finish : Finish) (old new : Written) → Does name step checks asked suite finish old new → HasWanted asked suite →
+      (Rose old.faults new.faults → ⊥) → Came asked finish old new
+  came (Run file seed workers) suite finish old new (inl reported, none) has quiet = record {
+    below = let below = below_passed (list_all (λ finding. has_passed finding.verdict) finish.findings) in omega (arith, reported.ends, below);
+    text = reported.text;
+    due = (reported.is, reported.ends);
+    written = reported.written;
+  }
+  came (Run file seed workers) suite finish old new (inr unwritten, none) has quiet = absurd (quiet unwritten.cause)
+  came (Replay file wanted list) suite finish old new (Replayed shown rec, says, tells) has quiet =
+      of_record file wanted list shown rec finish old new says.2 tells quiet
+  came (Replay file wanted list) suite finish old new (Refused refusal.UnknownItem, says, tells) has quiet = absurd (says has.0 has.1)
+  came (Replay file wanted list) suite finish old new (Refused refusal.Usage, says, tells) has quiet = absurd says
+  came (Replay file wanted list) suite finish old new (Refused (refusal.Suite at which), says, tells) has quiet = absurd says
+  came (Replay file wanted list) suite finish old new (Refused refusal.Read, says, tells) has quiet = absurd says
+  came (Replay file wanted list) suite finish old new (Refused refusal.Database, says, tells) has quiet = absurd says
+  came (Replay file wanted list) suite finish old new (Refused refusal.Clash, says, tells) has quiet = absurd says
+  came (Replay file wanted list) suite finish old new (Refused refusal.TooLarge, says, tells) has quiet = absurd says
 
--- a report has a status below 2, and so has a replay
-report_status : (verdict : Verdict) → (if has_passed verdict then 0 else 1) < 2
-report_status Passed = lit< tt
-report_status GaveUp = lit< tt
-report_status (Failed shown found) = lit< tt
+  module _ (one_suite : (bytes : List ℕ) (suite other : SuiteTree) → Reads bytes suite → Reads bytes other → suite ≡ other)
+      (not_both : (bytes : List ℕ) (suite : SuiteTree) (fault : SuiteFault) → Reads bytes suite → HasFault bytes fault → ⊥) (decided : SuitesAreDecided) where
+    -- what the call did, with the suite of the file
+    pub does_one : (call : Call) (asked : Asked) → Answers name step checks call → Asks call.words asked →
+        (runnable : IsRunnable (map name checks) call.before.files asked) → (call.before.files.steady ≡ true) ⊎ (Rose call.before.files.faults call.after.files.faults → ⊥) →
+        (one : Asked) × Asks call.words one × AreAlike one asked × Does name step checks one runnable.suite call.finish call.before.sink call.after.sink
+    does_one call asked (inl (nothing, tells)) asks runnable quiet = absurd (nothing asked asks)
+    does_one call asked (inr (one, words, inl (suite, taken, does))) asks runnable quiet =
+        let alike = asks_alike call.words one asked words asks in
+        let same = is_suite one_suite (map name checks) call.before.files call.after.files (suite_of one) suite runnable.suite runnable.content runnable.bytes taken runnable.told
+        (rw alike.suites runnable.there) runnable.reads in
+        (one, words, alike, subst (λ (s : SuiteTree). Does name step checks one s call.finish call.before.sink call.after.sink) same does)
+    does_one call asked (inr (one, words, inr (said, turned, tells))) asks runnable quiet =
+        let alike = asks_alike call.words one asked words asks in
+        let can = runnable_alike (map name checks) call.before.files one asked alike runnable in
+        absurd (is_taken one_suite not_both decided (map name checks) call.before.files call.after.files one said turned can quiet)
 
-replay_status : (fails : Bool) → (if fails then 1 else 0) < 2
-replay_status true = lit< tt
-replay_status false = lit< tt
-
--- where the item that is asked for is there, what is told is a report or a replay
-told_status : {C : Type 0} (name : C → List ℕ) (step : C → List Choice → Answer → Type 0) (check : C) (runs : ℕ) (asked : Asked)
-    (message : Message) → SaysOf asked (name check) (step check) runs message → IsItem asked (name check) → status_of message < 2
-told_status name step check runs (Run suite seed workers) (Reported finding) says item = report_status finding.verdict
-told_status name step check runs (Run suite seed workers) (Refused refusal) says item = absurd says
-told_status name step check runs (Run suite seed workers) (Replayed shown rec) says item = absurd says
-told_status name step check runs (Replay suite other list) (Replayed shown rec) says item = replay_status (is_failure rec.ending)
-told_status name step check runs (Replay suite other list) (Reported finding) says item = absurd says
-told_status name step check runs (Replay suite other list) (Refused UnknownItem) says item = absurd (says item)
-told_status name step check runs (Replay suite other list) (Refused Usage) says item = absurd says
-told_status name step check runs (Replay suite other list) (Refused Unreadable) says item = absurd says
-told_status name step check runs (Replay suite other list) (Refused TooLarge) says item = absurd says
-told_status name step check runs (Replay suite other list) (Refused NotBuilt) says item = absurd says
-
-pub done : {C : Type 0} (name : C → List ℕ) (step : C → List Choice → Answer → Type 0) (checks : List C) (call : Call) (asked : Asked) →
-    Answers name step checks call → Asks call.words asked → IsRunnable name checks call.before.files asked → IsQuiet call → IsDone call
-done {C} name step checks call asked answers asks runnable quiet = of_told answers.tells.told
-  where
-    old : Shown
-    old = call.before.files
-
-    new : Shown
-    new = call.after.files
-
-    below : status_of answers.message < 2
-    below =
-        let found = told_of_one name step checks call.before.files call.after.files call.words answers.message asked answers.answers asks runnable quiet.files in
-        let can = runnable_alike name checks call.before.files found.0 asked (Asks-alike call.words found.0 asked found.1 asks) runnable in
-        let same = same_name name step checks call.before.files call.after.files found.0 answers.message found.2 can in
-        told_status name step found.2.check found.2.runs found.0 answers.message found.2.says (subst (IsItem found.0) same can.item)
-
-    of_told : TellsAll answers.message answers.tells.text call.finish call.before.sink call.after.sink
-        ⊎ TellsPart answers.tells.text call.finish call.before.sink call.after.sink → IsDone call
-    of_told (inl all) = record {
-      below = omega (arith, all.status, below);
-      message = answers.message;
-      status = all.status;
-      text = answers.tells.text;
-      is_text = answers.tells.is_text;
-      written = all.written;
-    }
-    of_told (inr part) = absurd (quiet.sink part.cause)
+    pub done : (call : Call) (asked : Asked) → Answers name step checks call → Asks call.words asked →
+        IsRunnable (map name checks) call.before.files asked → IsQuiet call → IsDone asked call
+    done call asked answers asks runnable quiet =
+        let found = does_one call asked answers asks runnable quiet.files in
+        let whole = came found.0 runnable.suite call.finish call.before.sink call.after.sink found.3 (found.2.wanted runnable.suite runnable.has) quiet.sink in
+        record { below = whole.below; text = whole.text; due = found.2.due call.finish whole.text whole.due; written = whole.written }

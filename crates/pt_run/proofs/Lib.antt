@@ -1,8 +1,8 @@
 pub mod Completeness
+pub mod Items
 pub mod Messages
 pub mod Replaying
-pub mod Runs
 pub mod Statuses
 pub mod Suites
 pub mod Words
-pub mod Written
+pub mod Workers

@@ -1,9 +1,7 @@
--- What follows of files that hold a suite, and the report of one finding.
+-- What follows of files that hold a suite.
 use Rattle.std.proofs.Common.{◌≡◌, ℕ, true, false, List, [], ◌∷◌, ◌++◌, Option, Some, None, Result, Ok, Err, IfOk, OnErr, IsOk, refl, sym, subst, append-nil}
 use Rattle.std.specs.Option.{IfSome, IsSomeAnd}
 use Rattle.pt_io.specs.Files.{Shown, HasBytes, HasNone}
-use Rattle.pt_run.specs.declared.finding.Finding.{Finding}
-use Rattle.pt_run.specs.Report.{IsBlock, IsReport, tail}
 
 -- what follows of an answer
 pub IfOk-follows : {T E : Type 0} (result : Result T E) (P Q : T → Type 0) → IfOk result P → ((value : T) → P value → Q value) → IfOk result Q
@@ -54,7 +52,3 @@ pub HasNone-not : (files : Shown) (name : List ℕ) (content : List ℕ → Opti
 HasNone-not files name content bytes none told there =
     let absent : content name ≡ None = subst (λ (named : Option (List ℕ → Option (List ℕ))). IfSome named (λ content. content name ≡ None)) told none in
     cc
-
--- the report of one finding
-pub one_report : (finding : Finding) (block last : List ℕ) → IsBlock finding block → last ≡ tail (finding ∷ []) → IsReport (finding ∷ []) (block ++ last)
-one_report finding block last is_block is_last = (block, (block, [], is_block, refl, sym (append-nil block)), rw is_last refl)

@@ -1,203 +1,167 @@
 -- A printed failure replays to exactly itself.
-use Rattle.std.proofs.Common.{◌≡◌, ◌⊎◌, inl, inr, ℕ, ◌<◌, true, false, List, [], ◌∷◌, length, zero, suc, Option, Some, None, refl, sym, ◌∙◌, ap, subst, arith}
-use Rattle.std.specs.Prelude.{Contains, IsSome, slice_get, slice_index_or}
-use Rattle.std.proofs.lemmas.Bool.{cases_order}
-use Rattle.std.proofs.lemmas.Option.{slice_get_within, get_or_from_slice_get}
+use Rattle.std.proofs.Common.{◌≡◌, ◌⊎◌, inl, inr, ℕ, ◌<◌, Bool, true, false, List, [], Option, Some, None, refl, sym, ◌∙◌, ap, subst, arith}
+use Rattle.std.specs.Prelude.{Contains, IsSome, map}
 use Rattle.pt_choice.specs.declared.choice.Choice.{Choice}
 use Rattle.pt_wire.specs.Printed.{Printed}
 use Rattle.pt_wire.proofs.PrintedLists.{one_printed}
+use Rattle.pt_ast.specs.Trees.{ItemTree, SuiteTree}
+use Rattle.pt_parse.specs.Suites.{Reads, HasFault}
+use Rattle.pt_parse.specs.declared.fault.SuiteFault.{SuiteFault}
+use Rattle.pt_typing.specs.Laws.{SuitesAreDecided}
 use Rattle.pt_case.specs.Ending.{is_failure}
 use Rattle.pt_case.specs.Source.{Listed}
 use Rattle.pt_case.specs.Step.{Answer}
 use Rattle.pt_case.specs.Run.{IsRecord}
 use Rattle.pt_case.specs.declared.record.Record.{Record}
 use Rattle.pt_case.proofs.RecordLemmas.{record-once}
+use Rattle.pt_found.specs.declared.finding.Finding.{Finding}
+use Rattle.pt_found.specs.declared.finding.Found.{Found}
+use Rattle.pt_found.specs.declared.finding.Verdict.TheVariants.{Failed}
+use Rattle.pt_engine.specs.Finding.{IsFinding, ReplaysItself}
 use Rattle.pt_io.specs.Files.{Shown, HasBytes, IsSame}
 use Rattle.pt_io.specs.Reading.{IsWithinLimit}
-use Rattle.pt_run.specs.declared.finding.Finding.{Finding}
-use Rattle.pt_run.specs.declared.finding.Found.{Found}
-use Rattle.pt_run.specs.declared.finding.Found.TheVariants as found
-use Rattle.pt_run.specs.declared.finding.Verdict.TheVariants.{Failed}
+use Rattle.pt_io.specs.Sink.{Written}
+use Rattle.pt_item.specs.Item.{OfItem}
+use Rattle.pt_report.specs.Report.{IsReplay}
+use Rattle.pt_report.specs.declared.refusal.Refusal.TheVariants as refusal
+use Rattle.pt_turns.specs.Turn.{Turn}
 use Rattle.pt_run.specs.declared.message.Message.{Message}
-use Rattle.pt_run.specs.declared.message.Message.TheVariants.{Refused, Reported, Replayed}
-use Rattle.pt_run.specs.declared.refusal.Refusal.TheVariants.{Usage, Unreadable, TooLarge, NotBuilt, UnknownItem}
-use Rattle.pt_run.specs.Call.{Call, Answers, IsQuiet, AsksAgain, Replays}
-use Rattle.pt_run.specs.Due.{IsAnswer, IsDue, IsRunnable, IsTold}
-use Rattle.pt_run.specs.Message.{Tells, TellsAll, TellsPart, findings_of}
-use Rattle.pt_run.specs.Outcome.{IsFinding, Decides}
-use Rattle.pt_run.specs.Report.{IsReplay}
-use Rattle.pt_run.specs.Suite.{HaveOwnNames, Names}
+use Rattle.pt_run.specs.declared.message.Message.TheVariants.{Refused, Replayed}
+use Rattle.pt_run.specs.Call.{Call, Answers, IsQuiet, IsRunnable, AsksAgain, Replays}
+use Rattle.pt_run.specs.Ends.{Does, Ends, IsItem, Says}
+use Rattle.pt_run.specs.Message.{Tells, TellsAll, TellsPart}
+use Rattle.pt_run.specs.Suite.{HaveOwnNames, IsTaken}
 use Rattle.pt_run.specs.Words.{Asked, Run, Replay, Asks, AsksRun, suite_of}
-use Rattle.pt_run.proofs.Completeness.{Asks-alike, told_of_one}
-use Rattle.pt_run.proofs.Messages.{HasBytes-at, HasBytes-some}
-use Rattle.pt_run.proofs.Suites.{IsSuite-name}
-
--- checks at two places have two names
-one_name : {C : Type 0} (name : C → List ℕ) (checks : List C) → HaveOwnNames name checks → (i j : ℕ) (one other : C) →
-    slice_get checks i ≡ Some one → slice_get checks j ≡ Some other → name one ≡ name other → one ≡ other
-one_name {C} name checks own i j one other is also same = of_order (cases_order i j)
-  where
-    apart : (i j : ℕ) (one other : C) → slice_get checks i ≡ Some one → slice_get checks j ≡ Some other → name one ≡ name other → i < j → ⊥
-    apart i j one other is also same before =
-        own i j one before (slice_get_within checks j other also)
-        (ap name (get_or_from_slice_get checks i one one is) ∙ same ∙ sym (ap name (get_or_from_slice_get checks j other one also)))
-
-    of_order : (i ≡ j) ⊎ ((i < j) ⊎ (j < i)) → one ≡ other
-    of_order (inl here) = let there = rw here at is in cc
-    of_order (inr (inl before)) = absurd (apart i j one other is also same before)
-    of_order (inr (inr behind)) = absurd (apart j i other one also is (sym same) behind)
-
--- the suite has a check of the finding's name, and the failure that is shown is the record of its own choices on it
-record IsOf {C : Type 0} (name : C → List ℕ) (step : C → List Choice → Answer → Type 0) (checks : List C) (files : Shown) (suite item : List ℕ)
-    (shown : Record) : Type 0 where
-  pub check : C
-  pub runs : ℕ
-  pub place : ℕ
-  pub handed_in : slice_get checks place ≡ Some check
-  pub named : HasBytes files suite (λ bytes. IsWithinLimit bytes × Names name checks bytes check runs)
-  pub same : item ≡ name check
-  pub again : IsRecord (step check) shown.choices shown
-  pub fails : is_failure shown.ending ≡ true
-
--- what decides is a failure
-decided_fails : (runs : ℕ) (records : List Record) (shown : Record) (where_found : Found) → Decides runs records (Failed shown where_found) → is_failure shown.ending ≡ true
-decided_fails runs records shown (found.Run run) decided = decided.4
-
--- what a finding says of the failure that it shows
-of_finding : {C : Type 0} (name : C → List ℕ) (step : C → List Choice → Answer → Type 0) (checks : List C) (files : Shown) (suite : List ℕ)
-    (check : C) (runs place seed : ℕ) (finding : Finding) (shown : Record) (where_found : Found) → slice_get checks place ≡ Some check →
-    HasBytes files suite (λ bytes. IsWithinLimit bytes × Names name checks bytes check runs) → IsFinding (step check) (name check) seed runs finding →
-    finding.verdict ≡ Failed shown where_found → IsOf name step checks files suite finding.name shown
-of_finding name step checks files suite check runs place seed finding shown where_found handed named is failed =
-    let decided = rw failed at is.decided in
-    let replays = rw failed at is.replays in
-    record {
-      check = check;
-      runs = runs;
-      place = place;
-      handed_in = handed;
-      named = named;
-      same = is.named;
-      again = replays;
-      fails = decided_fails runs is.records shown where_found decided;
-    }
-
--- of one finding a list has no other
-only_one : (one other : Finding) (place : ℕ) → place < length (one ∷ []) → slice_index_or (one ∷ []) place other ≡ other → one ≡ other
-only_one one other zero within is = is
-only_one one other (suc place) within is = absurd (omega arith)
-
--- a run that has this finding says so
-of_run : {C : Type 0} (name : C → List ℕ) (step : C → List Choice → Answer → Type 0) (checks : List C) (run : Call) (suite : List ℕ) (seed workers : ℕ)
-    (finding : Finding) (shown : Record) (where_found : Found) → Answers name step checks run → AsksRun run.words suite seed workers →
-    Contains run.finish.findings finding → finding.verdict ≡ Failed shown where_found → IsOf name step checks run.before.files suite finding.name shown
-of_run {C} name step checks run suite seed workers finding shown where_found answers asks has failed =
-    of_answer answers.message answers.tells.findings answers.answers
-  where
-    of_told : (asked : Asked) (message : Message) → Asks run.words asked → suite_of asked ≡ suite → run.finish.findings ≡ findings_of message →
-        IsTold name step checks run.before.files run.after.files asked message → IsOf name step checks run.before.files suite finding.name shown
-    of_told (Run other seed' workers') (Reported one) asked same findings told =
-        let here = rw findings at has in
-        let is : one ≡ finding = only_one one finding here.0 here.1 here.2 in
-        of_finding name step checks run.before.files suite told.check told.runs told.place seed' finding shown where_found told.handed_in
-        (rw same at told.named) (rw is at told.says) failed
-    of_told (Run other seed' workers') (Refused refusal) asked same findings told = absurd told.says
-    of_told (Run other seed' workers') (Replayed item rec) asked same findings told = absurd told.says
-    of_told (Replay other item list) message asked same findings told = absurd (let same = sym asked.spelled ∙ asks.spelled in cc)
-
-    of_due : (asked : Asked) (message : Message) → Asks run.words asked → suite_of asked ≡ suite → run.finish.findings ≡ findings_of message →
-        IsDue name step checks run.before.files run.after.files asked message → IsOf name step checks run.before.files suite finding.name shown
-    of_due asked message asks' same findings (inl refused) =
-        let none : run.finish.findings ≡ [] = rw refused.1 at findings in
-        let here = rw none at has in
-        absurd (omega (arith, here.1))
-    of_due asked message asks' same findings (inr told) = of_told asked message asks' same findings told
-
-    of_answer : (message : Message) → run.finish.findings ≡ findings_of message → IsAnswer name step checks run.before.files run.after.files run.words message →
-        IsOf name step checks run.before.files suite finding.name shown
-    of_answer message findings (inl nothing) = absurd (nothing.0 (Run suite seed workers) asks)
-    of_answer message findings (inr found) =
-        of_due found.0 message found.1 (Asks-alike run.words found.0 (Run suite seed workers) found.1 asks).0 findings found.2
+use Rattle.pt_run.proofs.Completeness.{AreAlike, asks_alike, does_one}
+use Rattle.pt_run.proofs.Items.{finding_of, of_both, of_one, only_one, own_distinct}
+use Rattle.pt_run.proofs.Messages.{HasBytes-some}
 
 -- what is there
-some_of : {A : Type 0} (value : Option A) → IsSome value → (it : A) × (value ≡ Some it)
+pub some_of : {A : Type 0} (value : Option A) → IsSome value → (it : A) × (value ≡ Some it)
 some_of None some = absurd (let none : false ≡ true = some in cc)
 some_of (Some it) some = (it, refl)
 
--- a replay of its choices that is told of a check of that name replays it
-of_replay : {C : Type 0} (name : C → List ℕ) (step : C → List Choice → Answer → Type 0) (checks : List C) (own : HaveOwnNames name checks)
-    (files : Shown) (suite item : List ℕ) (shown : Record) (of : IsOf name step checks files suite item shown)
-    (again : Call) (words : AsksAgain again.words suite item shown) (quiet : IsQuiet again)
-    (asked : Asked) (message : Message) → Asks again.words asked → (told : IsTold name step checks again.before.files again.after.files asked message) →
-    name of.check ≡ name told.check → Tells message again.finish again.before.sink again.after.sink → Replays again item shown
-of_replay name step checks own files suite item shown of again words quiet (Run other seed workers) message asks told same tells =
-    absurd (let same = sym asks.spelled ∙ words.spelled in cc)
-of_replay name step checks own files suite item shown of again words quiet (Replay other named list) (Reported finding) asks told same tells = absurd told.says
-of_replay name step checks own files suite item shown of again words quiet (Replay other named list) (Refused UnknownItem) asks told same tells =
-    absurd (told.says (let spelled = sym asks.spelled ∙ words.spelled in let here = of.same in cc))
-of_replay name step checks own files suite item shown of again words quiet (Replay other named list) (Refused Usage) asks told same tells = absurd told.says
-of_replay name step checks own files suite item shown of again words quiet (Replay other named list) (Refused Unreadable) asks told same tells = absurd told.says
-of_replay name step checks own files suite item shown of again words quiet (Replay other named list) (Refused TooLarge) asks told same tells = absurd told.says
-of_replay name step checks own files suite item shown of again words quiet (Replay other named list) (Refused NotBuilt) asks told same tells = absurd told.says
-of_replay {C} name step checks own files suite item shown of again words quiet (Replay other named list) (Replayed title rec) asks told same tells =
-    of_tells tells.told
-  where
-    is_check : told.check ≡ of.check
-    is_check = one_name name checks own told.place of.place told.check of.check told.handed_in of.handed_in (sym same)
+module _ {C : Type 0} (name : C → List ℕ) (step : C → List Choice → Answer → Type 0) (checks : List C) where
+  -- what a turn says of the failure that it shows
+  abbrev IsFoundAs : ItemTree → ℕ → Finding → (List Choice → Answer → Type 0) → Type 0
+  IsFoundAs item seed finding says =
+      IsFinding says item.name.name seed item.settings.runs item.settings.shrink [] finding × ReplaysItself says finding.verdict
 
-    is_word : asks.word ≡ words.choices
-    is_word = let spelled = sym asks.spelled ∙ words.spelled in cc
+  -- the finding has the item's name
+  named_as : (seed : ℕ) (item : ItemTree) (finding : Finding) → Turn name step checks seed [] item finding → finding.name ≡ item.name.name
+  named_as seed item finding turn =
+      of_one name step checks item.name.name item.settings item.body (IsFoundAs item seed finding) (finding.name ≡ item.name.name) turn.found (λ says found. found.0.named)
 
-    is_list : list ≡ shown.choices
-    is_list = one_printed list shown.choices words.choices (subst (λ (word : List ℕ). Printed list word) is_word asks.printed) words.printed
+  -- the record of the choices that were shown is what was shown
+  same_record : HaveOwnNames name checks → (seed : ℕ) (item : ItemTree) (finding : Finding) (shown rec : Record) (found : Found) (spent : Bool) →
+      Turn name step checks seed [] item finding → finding.verdict ≡ Failed shown found spent →
+      OfItem name step checks item (λ says. IsRecord says shown.choices rec) → (rec ≡ shown) × (is_failure shown.ending ≡ true)
+  same_record own seed item finding shown rec found spent turn failed again =
+      of_both name step checks (own_distinct name checks own) item.name.name item.settings item.body (IsFoundAs item seed finding)
+      (λ says. IsRecord says shown.choices rec) ((rec ≡ shown) × (is_failure shown.ending ≡ true)) turn.found again
+      (λ says first second.
+      let itself = rw failed at first.1 in
+      (record-once says (Listed shown.choices) rec shown second itself.0, itself.1))
 
-    is_record : rec ≡ shown
-    is_record =
-        let on_list = subst (λ (l : List Choice). IsRecord (step told.check) l rec) is_list told.says.2 in
-        let on_check = subst (λ (check : C). IsRecord (step check) shown.choices rec) is_check on_list in
-        record-once (step of.check) (Listed shown.choices) rec shown on_check of.again
+  -- the suite of a run that has this finding, and the item that it was found out of
+  record IsOf (run : Call) (file : List ℕ) (finding : Finding) : Type 0 where
+    pub suite : SuiteTree
+    pub taken : IsTaken (map name checks) run.before.files run.after.files file suite
+    pub seed : ℕ
+    pub item : ItemTree
+    pub has : Contains suite.items item
+    pub turn : Turn name step checks seed [] item finding
 
-    is_title : title ≡ item
-    is_title = told.says.1 ∙ sym same ∙ sym of.same
+  of_run : (run : Call) (file : List ℕ) (seed workers : ℕ) (finding : Finding) → Answers name step checks run → AsksRun run.words file seed workers →
+      Contains run.finish.findings finding → IsOf run file finding
+  of_run run file seed workers finding (inl (nothing, tells)) asks has = absurd (nothing (Run file seed workers) asks)
+  of_run run file seed workers finding (inr (Run other seed' workers', words, inl (suite, taken, does))) asks has =
+      let alike = asks_alike run.words (Run other seed' workers') (Run file seed workers) words asks in
+      let of = finding_of name step checks seed' suite.items run.finish.status run.finish.findings finding run.before.sink run.after.sink does.0 has in
+      record {
+        suite = suite;
+        taken = subst (λ (f : List ℕ). IsTaken (map name checks) run.before.files run.after.files f suite) alike.suites taken;
+        seed = seed';
+        item = of.0;
+        has = of.1;
+        turn = of.2;
+      }
+  of_run run file seed workers finding (inr (Replay other item list, words, inl (suite, taken, does))) asks has =
+      absurd (let same = sym words.spelled ∙ asks.spelled in cc)
+  of_run run file seed workers finding (inr (one, words, inr (said, turned, tells))) asks has =
+      let none = tells.findings in
+      let here = rw none at has in
+      absurd (omega (arith, here.1))
 
-    of_tells : TellsAll (Replayed title rec) tells.text again.finish again.before.sink again.after.sink
-        ⊎ TellsPart tells.text again.finish again.before.sink again.after.sink → Replays again item shown
-    of_tells (inl all) = record {
-      status = let fails = ap (λ (r : Record). is_failure r.ending) is_record ∙ of.fails in rw fails at all.status;
-      replayed = all.replayed ∙ ap Some is_record;
-      text = tells.text;
-      is_text = subst (λ (t : List ℕ). IsReplay t shown tells.text) is_title (subst (λ (r : Record). IsReplay title r tells.text) is_record tells.is_text);
-      written = all.written;
-    }
-    of_tells (inr part) = absurd (quiet.sink part.cause)
+  module _ (own : HaveOwnNames name checks) (run again : Call) (file : List ℕ) (finding : Finding) (shown : Record) (found : Found) (spent : Bool)
+      (of : IsOf run file finding) (failed : finding.verdict ≡ Failed shown found spent) (words : AsksAgain again.words file finding.name shown) (quiet : IsQuiet again) where
+    -- a replay of its choices that was told of an item of that name replays it
+    of_told : (title : List ℕ) (rec : Record) (list : List Choice) (wanted : List ℕ) → title ≡ wanted → wanted ≡ finding.name → rec ≡ shown →
+        is_failure shown.ending ≡ true → Tells (Replayed title rec) again.finish again.before.sink again.after.sink → Replays again finding.name shown
+    of_told title rec list wanted is same is_record fails tells = of_tells tells.told
+      where
+        of_tells : TellsAll (Replayed title rec) tells.text again.finish again.before.sink again.after.sink
+            ⊎ TellsPart tells.text again.finish again.before.sink again.after.sink → Replays again finding.name shown
+        of_tells (inl all) = record {
+          status = let ends = ap (λ (r : Record). is_failure r.ending) is_record ∙ fails in rw ends at all.status;
+          replayed = all.replayed ∙ ap Some is_record;
+          text = tells.text;
+          is_text = subst (λ (t : List ℕ). IsReplay t shown tells.text) (is ∙ same) (subst (λ (r : Record). IsReplay title r tells.text) is_record tells.is_text);
+          written = all.written;
+        }
+        of_tells (inr part) = absurd (quiet.sink part.cause)
 
-pub replays : {C : Type 0} (name : C → List ℕ) (step : C → List Choice → Answer → Type 0) (checks : List C) (run again : Call) (suite : List ℕ)
-    (seed workers : ℕ) (finding : Finding) (shown : Record) (where_found : Found) → HaveOwnNames name checks →
-    Answers name step checks run → AsksRun run.words suite seed workers →
-    Contains run.finish.findings finding → finding.verdict ≡ Failed shown where_found →
-    IsSome run.before.files.named → IsSame run.before.files again.before.files →
-    Answers name step checks again → AsksAgain again.words suite finding.name shown → IsQuiet again → Replays again finding.name shown
-replays name step checks run again suite seed workers finding shown where_found own answers asks has failed told same answered words quiet =
-    let of = of_run name step checks run suite seed workers finding shown where_found answers asks has failed in
-    let content = some_of run.before.files.named told in
-    let bytes = HasBytes-some run.before.files suite (λ bytes. IsWithinLimit bytes × Names name checks bytes of.check of.runs) content.0 of.named content.1 in
-    let asks_again : Asks again.words (Replay suite finding.name shown.choices) =
-    record { word = words.choices; spelled = words.spelled; printed = words.printed; few = shown.few_choices } in
-    let runnable : IsRunnable name checks again.before.files (Replay suite finding.name shown.choices) = record {
-      content = content.0;
-      told = same.named ∙ content.1;
-      bytes = bytes.0;
-      there = bytes.1;
-      small = bytes.2.0;
-      check = of.check;
-      runs = of.runs;
-      names = bytes.2.1;
-      item = sym of.same;
-    } in
-    let found = told_of_one name step checks again.before.files again.after.files again.words answered.message (Replay suite finding.name shown.choices)
-    answered.answers asks_again runnable quiet.files in
-    let suites = Asks-alike again.words found.0 (Replay suite finding.name shown.choices) found.1 asks_again in
-    let named = rw suites.0 at found.2.named in
-    let here = HasBytes-at again.before.files suite (λ bytes. IsWithinLimit bytes × Names name checks bytes found.2.check found.2.runs) content.0 bytes.0 named runnable.told bytes.1 in
-    let one : name of.check ≡ name found.2.check = IsSuite-name bytes.0 _ _ _ _ bytes.2.1.in_suite here.1.in_suite in
-    of_replay name step checks own run.before.files suite finding.name shown of again words quiet found.0 answered.message found.1 found.2 one answered.tells
+    of_does : (asked : Asked) → Asks again.words asked → Does name step checks asked of.suite again.finish again.before.sink again.after.sink → Replays again finding.name shown
+    of_does (Run other seed workers) asks does = absurd (let same = sym asks.spelled ∙ words.spelled in cc)
+    of_does (Replay other wanted list) asks (Replayed title rec, says, tells) =
+        let spelled = sym asks.spelled ∙ words.spelled in
+        let is_wanted : wanted ≡ finding.name = cc in
+        let is_word : asks.word ≡ words.choices = cc in
+        let is_list : list ≡ shown.choices =
+        one_printed list shown.choices words.choices (subst (λ (word : List ℕ). Printed list word) is_word asks.printed) words.printed in
+        let title_is = named_as of.seed of.item finding of.turn in
+        let one : says.0 ≡ of.item =
+        only_one (λ (item : ItemTree). item.name.name) of.suite.items says.0 of.item of.taken.sound.typed.distinct says.1.0 of.has (says.1.1 ∙ is_wanted ∙ title_is) in
+        let on_item : OfItem name step checks of.item (λ s. IsRecord s list rec) =
+        subst (λ (item : ItemTree). OfItem name step checks item (λ s. IsRecord s list rec)) one says.3 in
+        let on_list : OfItem name step checks of.item (λ s. IsRecord s shown.choices rec) =
+        subst (λ (l : List Choice). OfItem name step checks of.item (λ s. IsRecord s l rec)) is_list on_item in
+        let same = same_record own of.seed of.item finding shown rec found spent of.turn failed on_list in
+        of_told title rec list wanted says.2 is_wanted same.0 same.1 tells
+    of_does (Replay other wanted list) asks (Refused refusal.UnknownItem, says, tells) =
+        let spelled = sym asks.spelled ∙ words.spelled in
+        let is_wanted : wanted ≡ finding.name = cc in
+        absurd (says of.item (of.has, sym (named_as of.seed of.item finding of.turn) ∙ sym is_wanted))
+    of_does (Replay other wanted list) asks (Refused refusal.Usage, says, tells) = absurd says
+    of_does (Replay other wanted list) asks (Refused (refusal.Suite at which), says, tells) = absurd says
+    of_does (Replay other wanted list) asks (Refused refusal.Read, says, tells) = absurd says
+    of_does (Replay other wanted list) asks (Refused refusal.Database, says, tells) = absurd says
+    of_does (Replay other wanted list) asks (Refused refusal.Clash, says, tells) = absurd says
+    of_does (Replay other wanted list) asks (Refused refusal.TooLarge, says, tells) = absurd says
+
+  module _ (one_suite : (bytes : List ℕ) (suite other : SuiteTree) → Reads bytes suite → Reads bytes other → suite ≡ other)
+      (not_both : (bytes : List ℕ) (suite : SuiteTree) (fault : SuiteFault) → Reads bytes suite → HasFault bytes fault → ⊥) (decided : SuitesAreDecided) where
+    pub replays : (run again : Call) (file : List ℕ) (seed workers : ℕ) (finding : Finding) (shown : Record) (found : Found) (spent : Bool) →
+        HaveOwnNames name checks → Answers name step checks run → AsksRun run.words file seed workers →
+        Contains run.finish.findings finding → finding.verdict ≡ Failed shown found spent →
+        IsSome run.before.files.named → IsSame run.before.files again.before.files →
+        Answers name step checks again → AsksAgain again.words file finding.name shown → IsQuiet again → Replays again finding.name shown
+    replays run again file seed workers finding shown found spent own answers asks has failed told same answered words quiet =
+        let of = of_run run file seed workers finding answers asks has in
+        let content = some_of run.before.files.named told in
+        let bytes = HasBytes-some run.before.files file (λ bytes. IsWithinLimit bytes × Reads bytes of.suite) content.0 of.taken.read content.1 in
+        let asks_again : Asks again.words (Replay file finding.name shown.choices) =
+        record { word = words.choices; spelled = words.spelled; printed = words.printed; few = shown.few_choices } in
+        let runnable : IsRunnable (map name checks) again.before.files (Replay file finding.name shown.choices) = record {
+          content = content.0;
+          told = same.named ∙ content.1;
+          bytes = bytes.0;
+          there = bytes.1;
+          small = bytes.2.0;
+          suite = of.suite;
+          reads = bytes.2.1;
+          typed = of.taken.sound.typed;
+          has = (of.item, (of.has, sym (named_as of.seed of.item finding of.turn)));
+        } in
+        let does = does_one name step checks one_suite not_both decided again (Replay file finding.name shown.choices) answered asks_again runnable quiet.files in
+        of_does own run again file finding shown found spent of failed words quiet does.0 does.1 does.3

@@ -1,18 +1,26 @@
 -- A call of the program, and what follows of it.
-use Rattle.std.specs.Prelude.{◌≡◌, ◌⊎◌, ℕ, ◌<◌, true, List, [], ◌∷◌, map, codes, Some, String, string_bytes}
+use Rattle.std.specs.Prelude.{◌≡◌, ◌⊎◌, ℕ, ◌<◌, true, List, [], ◌∷◌, map, codes, Option, Some, String, string_bytes, if◌then◌else◌}
 use Rattle.std.specs.declared.alloc.Global.{Global}
 use Rattle.pt_choice.specs.Faults.{Rose}
 use Rattle.pt_choice.specs.declared.choice.Choice.{Choice}
 use Rattle.pt_wire.specs.Printed.{Printed}
+use Rattle.pt_ast.specs.Suites.{IsTyped}
+use Rattle.pt_ast.specs.Trees.{ItemTree, SuiteTree}
+use Rattle.pt_parse.specs.Suites.{Reads}
+use Rattle.pt_case.specs.Ending.{is_failure}
 use Rattle.pt_case.specs.Step.{Answer}
 use Rattle.pt_case.specs.declared.record.Record.{Record}
 use Rattle.pt_io.specs.Files.{Shown}
+use Rattle.pt_io.specs.Reading.{IsWithinLimit}
 use Rattle.pt_io.specs.Sink.{Written, Appends}
-use Rattle.pt_run.specs.Due.{IsAnswer}
-use Rattle.pt_run.specs.Message.{Tells, IsText, status_of}
-use Rattle.pt_run.specs.Report.{IsReplay}
+use Rattle.pt_report.specs.Report.{IsReplay, IsReport}
+use Rattle.pt_report.specs.declared.refusal.Refusal.TheVariants.{Usage}
+use Rattle.pt_turns.specs.Ended as turns
 use Rattle.pt_run.specs.declared.finish.Finish.{Finish}
-use Rattle.pt_run.specs.declared.message.Message.{Message}
+use Rattle.pt_run.specs.declared.message.Message.TheVariants.{Refused}
+use Rattle.pt_run.specs.Ends.{Ends, IsItem}
+use Rattle.pt_run.specs.Message.{Tells}
+use Rattle.pt_run.specs.Words.{Asked, Run, Replay, Asks, AskNothing, suite_of}
 
 -- what the outside shows at a moment
 pub record Outside : Type 0 where
@@ -32,24 +40,46 @@ pub record Call : Type 0 where
 abbrev pub call : List (String Global) → Outside → Outside → Finish → Call
 call words before after finish = record { words = words; before = before; after = after; finish = finish }
 
--- There is a message that answers the words, and the call has told it.
-pub record Answers {C : Type 0} (name : C → List ℕ) (step : C → List Choice → Answer → Type 0) (checks : List C) (call : Call) : Type 0 where
-  pub message : Message
-  pub answers : IsAnswer name step checks call.before.files call.after.files call.words message
-  pub tells : Tells message call.finish call.before.sink call.after.sink
+-- The words ask for nothing, and the call says so; or they ask for something, and the call ends as it must.
+abbrev pub Answers : {C : Type 0} → (C → List ℕ) → (C → List Choice → Answer → Type 0) → List C → Call → Type 0
+Answers name step checks call =
+    (AskNothing call.words × Tells (Refused Usage) call.finish call.before.sink call.after.sink)
+    ⊎ ((asked : Asked) × Asks call.words asked
+    × Ends name step checks asked call.before.files call.after.files call.finish call.before.sink call.after.sink)
 
 -- No call of the sink failed, and none of the files, of which steady ones fail only where they lack the suite.
 pub record IsQuiet (call : Call) : Type 0 where
   pub files : (call.before.files.steady ≡ true) ⊎ (Rose call.before.files.faults call.after.files.faults → ⊥)
   pub sink : Rose call.before.sink.faults call.after.sink.faults → ⊥
 
--- The status is 0 or 1, and what there is to say was written whole.
-pub record IsDone (call : Call) : Type 0 where
+-- the suite has what is asked for: an item of the name, where a replay asks for one
+abbrev pub HasWanted : Asked → SuiteTree → Type 0
+HasWanted (Run file seed workers) suite = Unit {0}
+HasWanted (Replay file wanted list) suite = (item : ItemTree) × IsItem suite wanted item
+
+-- What is asked for can be done: there is such a file, and it is the text of a well typed suite that has what is asked for.
+pub record IsRunnable (known : List (List ℕ)) (files : Shown) (asked : Asked) : Type 0 where
+  pub content : List ℕ → Option (List ℕ)
+  pub told : files.named ≡ Some content
+  pub bytes : List ℕ
+  pub there : content (suite_of asked) ≡ Some bytes
+  pub small : IsWithinLimit bytes
+  pub suite : SuiteTree
+  pub reads : Reads bytes suite
+  pub typed : IsTyped known suite
+  pub has : HasWanted asked suite
+
+-- this is the whole text that is due, and the status that goes with it
+abbrev pub IsDue : Asked → Finish → List ℕ → Type 0
+IsDue (Run file seed workers) finish text = IsReport finish.findings text × (finish.status ≡ turns.status_of finish.findings)
+IsDue (Replay file wanted list) finish text =
+    (rec : Record) × (finish.replayed ≡ Some rec) × IsReplay wanted rec text × (finish.status ≡ (if is_failure rec.ending then 1 else 0))
+
+-- The status is 0 or 1, and the whole text that is due was written.
+pub record IsDone (asked : Asked) (call : Call) : Type 0 where
   pub below : call.finish.status < 2
-  pub message : Message
-  pub status : call.finish.status ≡ status_of message
   pub text : List ℕ
-  pub is_text : IsText message text
+  pub due : IsDue asked call.finish text
   pub written : Appends call.before.sink.bytes text call.after.sink.bytes
 
 -- the words ask for a replay of this record's printed choices on the item of this name

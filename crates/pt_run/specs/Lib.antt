@@ -1,9 +1,6 @@
 pub mod Call
 pub mod Command
-pub mod Due
+pub mod Ends
 pub mod Message
-pub mod Outcome
-pub mod Report
 pub mod Suite
 pub mod Words
-pub mod Verdict

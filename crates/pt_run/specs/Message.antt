@@ -1,57 +1,43 @@
--- What a call of the program has to say, and what it writes then.
-use Rattle.std.specs.Prelude.{◌≡◌, ◌⊎◌, ℕ, Contains, List, [], ◌∷◌, Option, Some, None, codes, if◌then◌else◌}
+-- What a call of the program has to say but for the blocks of a run, and what it writes then.
+use Rattle.std.specs.Prelude.{◌≡◌, ◌⊎◌, ℕ, Contains, List, [], ◌∷◌, Option, Some, None, if◌then◌else◌}
 use Rattle.pt_case.specs.Ending.{is_failure}
 use Rattle.pt_case.specs.declared.record.Record.{Record}
 use Rattle.pt_choice.specs.Faults.{Rose}
 use Rattle.pt_io.specs.Sink.{Written, Appends, AppendsPart}
-use Rattle.pt_run.specs.declared.finding.Finding.{Finding}
+use Rattle.pt_report.specs.Refusals.{refusal_text}
+use Rattle.pt_report.specs.Report.{IsReplay}
+use Rattle.pt_report.specs.declared.refusal.Refusal.{Refusal}
+use Rattle.pt_report.specs.declared.refusal.Refusal.TheVariants as refusal
 use Rattle.pt_run.specs.declared.finish.Finish.{Finish}
 use Rattle.pt_run.specs.declared.message.Message.{Message}
-use Rattle.pt_run.specs.declared.message.Message.TheVariants.{Refused, Reported, Replayed}
-use Rattle.pt_run.specs.declared.refusal.Refusal.{Refusal}
-use Rattle.pt_run.specs.declared.refusal.Refusal.TheVariants.{Usage, Unreadable, TooLarge, NotBuilt, UnknownItem}
-use Rattle.pt_run.specs.Report.{line, IsReport, IsReplay}
-use Rattle.pt_run.specs.Verdict.{has_passed}
-
-abbrev pub refusal_line : Refusal → List ℕ
-refusal_line Usage = line (codes "usage: run SUITE SEED WORKERS | replay SUITE NAME CHOICES" ∷ [])
-refusal_line Unreadable = line (codes "suite cannot be read" ∷ [])
-refusal_line TooLarge = line (codes "suite too large" ∷ [])
-refusal_line NotBuilt = line (codes "suite form not built" ∷ [])
-refusal_line UnknownItem = line (codes "unknown item" ∷ [])
+use Rattle.pt_run.specs.declared.message.Message.TheVariants.{Refused, Replayed}
 
 abbrev pub refusal_status : Refusal → ℕ
-refusal_status Usage = 2
-refusal_status Unreadable = 4
-refusal_status TooLarge = 9
-refusal_status NotBuilt = 11
-refusal_status UnknownItem = 10
+refusal_status refusal.Usage = 2
+refusal_status (refusal.Suite at which) = 3
+refusal_status refusal.Read = 4
+refusal_status refusal.Database = 6
+refusal_status refusal.Clash = 8
+refusal_status refusal.TooLarge = 9
+refusal_status refusal.UnknownItem = 10
 
 -- this is the text of the message
 abbrev pub IsText : Message → List ℕ → Type 0
-IsText (Refused refusal) text = text ≡ refusal_line refusal
-IsText (Reported finding) text = IsReport (finding ∷ []) text
+IsText (Refused refusal) text = text ≡ refusal_text refusal
 IsText (Replayed item rec) text = IsReplay item rec text
-
-abbrev pub findings_of : Message → List Finding
-findings_of (Refused refusal) = []
-findings_of (Reported finding) = finding ∷ []
-findings_of (Replayed item rec) = []
 
 -- the record that was replayed, if one was
 abbrev pub replayed_of : Message → Option Record
 replayed_of (Refused refusal) = None
-replayed_of (Reported finding) = None
 replayed_of (Replayed item rec) = Some rec
 
 abbrev pub status_of : Message → ℕ
 status_of (Refused refusal) = refusal_status refusal
-status_of (Reported finding) = if has_passed finding.verdict then 0 else 1
 status_of (Replayed item rec) = if is_failure rec.ending then 1 else 0
 
 -- a call ends with one of these statuses, and no other
 abbrev pub IsStatus : ℕ → Type 0
-IsStatus status = Contains (0 ∷ 1 ∷ 2 ∷ 4 ∷ 5 ∷ 9 ∷ 10 ∷ 11 ∷ []) status
+IsStatus status = Contains (0 ∷ 1 ∷ 2 ∷ 3 ∷ 4 ∷ 5 ∷ 9 ∷ 10 ∷ []) status
 
 -- the message was written whole, with its status, and no call of the sink failed
 pub record TellsAll (message : Message) (text : List ℕ) (finish : Finish) (old new : Written) : Type 0 where
@@ -69,7 +55,7 @@ pub record TellsPart (text : List ℕ) (finish : Finish) (old new : Written) : T
 
 -- What is left of a call that has this message.
 pub record Tells (message : Message) (finish : Finish) (old new : Written) : Type 0 where
-  pub findings : finish.findings ≡ findings_of message
+  pub findings : finish.findings ≡ []
   pub text : List ℕ
   pub is_text : IsText message text
   pub told : TellsAll message text finish old new ⊎ TellsPart text finish old new

@@ -15,11 +15,6 @@ abbrev pub suite_of : Asked → List ℕ
 suite_of (Run suite seed workers) = suite
 suite_of (Replay suite item list) = suite
 
--- the item of this name is asked for; a run asks for every item
-abbrev pub IsItem : Asked → List ℕ → Type 0
-IsItem (Run suite seed workers) name = Unit {0}
-IsItem (Replay suite item list) name = name ≡ item
-
 -- The words ask for a run of this suite with this seed and so many workers. A number is written in decimal, with no
 -- sign and no leading zero.
 pub record AsksRun (words : List (String Global)) (suite : List ℕ) (seed workers : ℕ) : Type 0 where

@@ -3,7 +3,7 @@ ghost use Rattle.std.specs.Fmt.{decimal};
 ghost use Rattle.pt_choice.specs.declared.choice.Choice.{Choice};
 ghost use Rattle.pt_wire.specs.Printed.{Printed};
 ghost use Rattle.pt_run.specs.Command.{asked_by};
-ghost use Rattle.pt_run.specs.Words.{Asks, AskNothing, AsksRun, AsksReplay, suite_of};
+ghost use Rattle.pt_run.specs.Words.{Asks, AskNothing, AsksRun, AsksReplay};
 
 use pt_choice::{Choices, NoMemory};
 use pt_wire::{MAX_PRINTED, WireFault, read_choices, short_text};
@@ -19,7 +19,7 @@ pub enum Command<'a> {
     Run {
         suite: &'a str,
         seed: u64,
-        workers: u64,
+        workers: u32,
     },
     /// The list is replayed on one item of the suite.
     Replay {
@@ -27,17 +27,6 @@ pub enum Command<'a> {
         item: &'a str,
         list: Choices,
     },
-}
-
-impl<'a> Command<'a> {
-    /// The name of the suite's file.
-    pub fn suite(&self) -> &'a str
-        ensures { result.now ≡ suite_of (asked_by self.now) }
-    {
-        match self {
-            Command::Run { suite, .. } | Command::Replay { suite, .. } => suite,
-        }
-    }
 }
 
 /// The command that the words ask for.
@@ -68,6 +57,7 @@ fn read_run<'a>(alloc: Global, words: &'a [String]) -> Result<Option<Command<'a>
         return Ok(None);
     };
     let suite = suite.as_str();
+    let workers = workers as u32;
     Ok(Some(Command::Run {
         suite,
         seed,

@@ -3,25 +3,29 @@ ghost use Rattle.pt_choice.specs.Faults.{next_count};
 ghost use Rattle.pt_io.specs.Files.{IsSame};
 ghost use Rattle.pt_run.specs.Call.{Answers, call, outside};
 ghost use Rattle.pt_run.specs.Command.{asked_by};
-ghost use Rattle.pt_run.specs.Due.{IsDue, SaysOf};
+ghost use Rattle.pt_run.specs.Ends.{Ends, EndsShort};
 ghost use Rattle.pt_run.specs.Message.{IsStatus};
 ghost use Rattle.pt_run.specs.Suite.{HaveOwnNames};
 ghost use Rattle.pt_run.specs.Words.{Asked, Asks, AskNothing};
 
 use crate::command::{Command, read_command};
-use crate::outcome::examine;
-use crate::suite::{Item, named_item};
+use crate::running::run;
+use crate::showing::show;
 use crate::telling::tell;
-use crate::{Finish, Message, Refusal};
-use pt_case::{Check, replay};
+use crate::{Finish, Message};
+use pt_case::Check;
 use pt_choice::NoMemory;
-use pt_io::{Files, ReadStop, Sink, read_whole};
+use pt_io::{Files, Sink};
+use pt_report::Refusal;
 use std::alloc::Global;
+use std::thread::Threads;
 
 /// All that the program does: reads the words, does what they ask for, and says what came of it.
 ///
-/// Want of memory may come at any time, and then nothing was written.
-pub fn top<F: Files, K: Sink, C: Check>(
+/// Between two items of a run the memory in use is that of the findings. Want of memory may come at any time, and what was
+/// written by then are whole blocks of a run.
+pub fn top<R: Threads + Sync, F: Files, K: Sink, C: Check>(
+    rt: &R,
     alloc: Global,
     words: &[String],
     files: &mut F,
@@ -31,13 +35,15 @@ pub fn top<F: Files, K: Sink, C: Check>(
     requires { HaveOwnNames C.name checks.now }
 
     // What is due is written whole, with its status, or a first part of it, with status 5.
-    ensures told { IfOk result (λ finish. Answers C.name C.step checks.now (call words.now
+    ensures answers { IfOk result (λ finish. Answers C.name C.step checks.now (call words.now
         (outside (F.shows files.old) (K.shows sink.old)) (outside (F.shows files.new) (K.shows sink.new)) finish)) }
 
     ensures status { IfOk result (λ finish. IsStatus finish.status) }
 
-    // After want of memory the sink is as it was, and no call of the files has failed.
-    ensures nothing { OnErr result (sink.new ≡ sink.old) }
+    // After want of memory the sink is as it was, or the blocks of some of the first items of a run are written, whole; and no call
+    // of the files has failed.
+    ensures short { OnErr result ((sink.new ≡ sink.old)
+        ⊎ EndsShort C.name C.step checks.now words.now (F.shows files.old) (F.shows files.new) (K.shows sink.old) (K.shows sink.new)) }
     ensures quiet { OnErr result ((F.shows files.new).faults ≡ (F.shows files.old).faults) }
 
     // The files are the same ones, and no count falls.
@@ -51,63 +57,40 @@ pub fn top<F: Files, K: Sink, C: Check>(
     ensures at_most { OnErr result (((F.shows files.new).chosen ≡ (F.shows files.old).chosen)
         ⊎ ((F.shows files.new).chosen ≡ next_count (F.shows files.old).chosen)) }
 {
-    let message = match read_command(alloc, words)? {
-        Some(command) => answer(alloc, command, files, checks)?,
-        None => Message::Refused(Refusal::Usage),
-    };
-    tell(alloc, sink, message)
-}
-
-// What there is to say of the command.
-fn answer<F: Files, C: Check>(
-    alloc: Global,
-    command: Command<'_>,
-    files: &mut F,
-    checks: &[C],
-) -> Result<Message, NoMemory>
-    ensures due { IfOk result (IsDue C.name C.step checks.now (F.shows files.old) (F.shows files.new) (asked_by command.entry)) }
-    ensures quiet { OnErr result ((F.shows files.new).faults ≡ (F.shows files.old).faults) }
-    ensures same { IsSame (F.shows files.old) (F.shows files.new) }
-    ensures once { (F.shows files.new).chosen ≡ next_count (F.shows files.old).chosen }
-{
-    let text = match read_whole(alloc, files, command.suite()) {
-        Ok(text) => text,
-        Err(ReadStop::Failed) => return Ok(Message::Refused(Refusal::Unreadable)),
-        Err(ReadStop::TooLarge) => return Ok(Message::Refused(Refusal::TooLarge)),
-        Err(ReadStop::NoMemory) => return Err(NoMemory),
-    };
-    match named_item(alloc, text.as_slice(), checks)? {
-        Some(item) => perform(alloc, command, &item),
-        None => Ok(Message::Refused(Refusal::NotBuilt)),
+    match read_command(alloc, words)? {
+        Some(command) => perform(rt, alloc, command, words, files, sink, checks),
+        None => tell(alloc, sink, Message::Refused(Refusal::Usage)),
     }
 }
 
-// Does what the command asks for with the suite's one item.
-fn perform<C: Check>(
+// Does what the command asks for, which these words ask for.
+fn perform<R: Threads + Sync, F: Files, K: Sink, C: Check>(
+    rt: &R,
     alloc: Global,
     command: Command<'_>,
-    item: &Item<'_, C>,
-) -> Result<Message, NoMemory>
-    requires some { 1 ≤ item.now.runs }
-    requires most { item.now.runs ≤ 10000 }
-    ensures { IfOk result (SaysOf (asked_by command.entry) (C.name item.now.check.now) (C.step item.now.check.now) item.now.runs) }
+    words: &[String],
+    files: &mut F,
+    sink: &mut K,
+    checks: &[C],
+) -> Result<Finish, NoMemory>
+    requires { Asks words.now (asked_by command) }
+    ensures ends { IfOk result (λ finish. Ends C.name C.step checks.now (asked_by command.entry)
+        (F.shows files.old) (F.shows files.new) finish (K.shows sink.old) (K.shows sink.new)) }
+    ensures short { OnErr result ((sink.new ≡ sink.old)
+        ⊎ EndsShort C.name C.step checks.now words.now (F.shows files.old) (F.shows files.new) (K.shows sink.old) (K.shows sink.new)) }
+    ensures quiet { OnErr result ((F.shows files.new).faults ≡ (F.shows files.old).faults) }
+    ensures same { IsSame (F.shows files.old) (F.shows files.new) }
+    ensures later { (K.shows sink.old).faults ≤ (K.shows sink.new).faults }
+    ensures once { (F.shows files.new).chosen ≡ next_count (F.shows files.old).chosen }
 {
     match command {
-        Command::Run { seed, .. } => {
-            let finding = examine(alloc, item.check, seed, item.runs)?;
-            Ok(Message::Reported(finding))
-        }
-        Command::Replay {
-            item: name,
-            list,
-            ..
-        } => {
-            if item.check.name().as_slice() != name.as_bytes() {
-                return Ok(Message::Refused(Refusal::UnknownItem));
-            }
-            let rec = replay(alloc, item.check, &list)?;
-            let item = item.check.name().copy()?;
-            Ok(Message::Replayed { item, rec })
+        Command::Run {
+            suite,
+            seed,
+            workers,
+        } => run(rt, alloc, suite, seed, workers, files, sink, checks),
+        Command::Replay { suite, item, list } => {
+            show(alloc, suite, item, &list, files, sink, checks)
         }
     }
 }

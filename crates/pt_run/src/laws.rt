@@ -1,33 +1,57 @@
 //! What follows of every call of `top`. These functions do nothing: their contracts are the laws.
 
-ghost use Rattle.std.specs.Prelude.{◌≡◌, ℕ, List, Contains, IsSome};
+ghost use Rattle.std.specs.Prelude.{◌≡◌, ℕ, ◌<◌, Bool, List, Contains, IsSome, map};
 ghost use Rattle.pt_case.specs.declared.record.Record.{Record};
+ghost use Rattle.pt_found.specs.declared.finding.Finding.{Finding};
+ghost use Rattle.pt_found.specs.declared.finding.Found.{Found};
+ghost use Rattle.pt_found.specs.declared.finding.Verdict.TheVariants.{Failed};
 ghost use Rattle.pt_io.specs.Files.{IsSame};
-ghost use Rattle.pt_run.specs.Call.{Call, Answers, IsQuiet, IsDone, AsksAgain, Replays};
-ghost use Rattle.pt_run.specs.Due.{IsRunnable};
+ghost use Rattle.pt_turns.specs.Agree.{AllAgree};
+ghost use Rattle.pt_run.specs.Call.{Call, Answers, IsQuiet, IsDone, IsRunnable, AsksAgain, Replays};
 ghost use Rattle.pt_run.specs.Suite.{HaveOwnNames};
 ghost use Rattle.pt_run.specs.Words.{Asked, Asks, AsksRun};
-ghost use Rattle.pt_run.specs.declared.finding.Finding.{Finding};
-ghost use Rattle.pt_run.specs.declared.finding.Found.{Found};
-ghost use Rattle.pt_run.specs.declared.finding.Verdict.TheVariants.{Failed};
 
 use pt_case::Check;
+use pt_parse::{one_suite, suite_or_fault};
+use pt_typing::suites_are_decided;
 
 /// Completeness: where the words ask for what can be done, and no call of the outside fails, it is done.
 pub fn what_can_be_done_is_done<C: Check>(checks: &[C])
     ensures { (call : Call) (asked : Asked) → Answers C.name C.step checks.now call → Asks call.words asked
-        → IsRunnable C.name checks.now call.before.files asked → IsQuiet call → IsDone call }
-{}
+        → IsRunnable (map C.name checks.now) call.before.files asked → IsQuiet call → IsDone asked call }
+{
+    one_suite();
+    suite_or_fault();
+    suites_are_decided();
+}
 
 /// A printed failure replays to exactly itself: a later call over the same files, which are told, whose words ask for
 /// a replay of its printed choices on its item, ends with this very record and writes what it shows, where no call of
 /// the outside fails.
 pub fn a_printed_failure_replays_to_itself<C: Check>(checks: &[C])
-    ensures { (run again : Call) (suite : List ℕ) (seed workers : ℕ) (finding : Finding) (shown : Record) (found : Found)
+    ensures { (run again : Call) (suite : List ℕ) (seed workers : ℕ) (finding : Finding) (shown : Record) (found : Found) (spent : Bool)
         → HaveOwnNames C.name checks.now
         → Answers C.name C.step checks.now run → AsksRun run.words suite seed workers
-        → Contains run.finish.findings finding → finding.verdict ≡ Failed shown found
+        → Contains run.finish.findings finding → finding.verdict ≡ Failed shown found spent
         → IsSome run.before.files.named → IsSame run.before.files again.before.files
         → Answers C.name C.step checks.now again → AsksAgain again.words suite finding.name shown → IsQuiet again
         → Replays again finding.name shown }
-{}
+{
+    one_suite();
+    suite_or_fault();
+    suites_are_decided();
+}
+
+/// The workers change nothing but the reductions: two runs of one file, which is told, with one seed, that both came to their end
+/// with status 0 or 1, found the same of each item, whatever numbers of workers they had.
+pub fn workers_change_no_finding<C: Check>(checks: &[C])
+    requires { HaveOwnNames C.name checks.now }
+    ensures { (one other : Call) (suite : List ℕ) (seed workers more : ℕ)
+        → Answers C.name C.step checks.now one → AsksRun one.words suite seed workers → one.finish.status < 2
+        → Answers C.name C.step checks.now other → AsksRun other.words suite seed more → other.finish.status < 2
+        → IsSome one.before.files.named → IsSame one.before.files other.before.files
+        → AllAgree one.finish.findings other.finish.findings }
+{
+    one_suite();
+    pt_turns::workers_change_no_finding(checks);
+}

@@ -2,23 +2,18 @@
 #![tactic(auto)]
 
 mod command;
-mod ending;
 mod entry;
-mod finding;
 mod finish;
 mod laws;
+mod loading;
 mod message;
-mod outcome;
-mod pieces;
-mod refusal;
-mod report;
-mod shown;
-mod suite;
+mod running;
+mod showing;
 mod telling;
 
 pub use entry::top;
-pub use finding::{Finding, Findings, Found, Verdict};
 pub use finish::Finish;
-pub use laws::{a_printed_failure_replays_to_itself, what_can_be_done_is_done};
+pub use laws::{
+    a_printed_failure_replays_to_itself, what_can_be_done_is_done, workers_change_no_finding,
+};
 use message::Message;
-use refusal::Refusal;

@@ -9,6 +9,7 @@ use pt_io::{Calls, MemoryFiles, MemorySink, NamedFiles};
 use pt_run::top;
 use std::alloc::Global;
 use std::test::Fail;
+use std::thread::Threads;
 
 // A call with these words, where this is the file `s`, and these calls of the files and of the output fail; and what
 // it writes and its status.
@@ -23,13 +24,18 @@ struct Row {
 }
 
 // Whether the call with this one check does so.
-fn is_shown<C: Check>(alloc: Global, checks: &[C], row: Row) -> Result<bool, NoMemory>
+fn is_shown<R: Threads + Sync, C: Check>(
+    rt: &R,
+    alloc: Global,
+    checks: &[C],
+    row: Row,
+) -> Result<bool, NoMemory>
     requires { length checks.now ≤ 1 }
 {
     let words = words(alloc, row.words)?;
     let mut files = MemoryFiles::of(files(alloc, row.suite)?, calls(alloc, row.read)?);
     let mut sink = MemorySink::of(alloc, calls(alloc, row.write)?);
-    let finish = top(alloc, words.as_slice(), &mut files, &mut sink, checks)?;
+    let finish = top(rt, alloc, words.as_slice(), &mut files, &mut sink, checks)?;
     Ok(
         sink.written() == row.output.as_bytes()
             && finish.status == row.status
@@ -37,14 +43,19 @@ fn is_shown<C: Check>(alloc: Global, checks: &[C], row: Row) -> Result<bool, NoM
     )
 }
 
-fn is_ended(alloc: Global, way: Way, row: Row) -> Result<bool, NoMemory> {
+fn is_ended<R: Threads + Sync>(
+    rt: &R,
+    alloc: Global,
+    way: Way,
+    row: Row,
+) -> Result<bool, NoMemory> {
     let check = Ends::of(alloc, way)?;
-    is_shown(alloc, &[check], row)
+    is_shown(rt, alloc, &[check], row)
 }
 
-fn is_noted(alloc: Global, row: Row) -> Result<bool, NoMemory> {
+fn is_noted<R: Threads + Sync>(rt: &R, alloc: Global, row: Row) -> Result<bool, NoMemory> {
     let check = Noting::of(alloc)?;
-    is_shown(alloc, &[check], row)
+    is_shown(rt, alloc, &[check], row)
 }
 
 fn words(alloc: Global, of: &[&str]) -> Result<Vec<String>, NoMemory> {
@@ -126,9 +137,31 @@ fn a_check_is_run_or_replayed(rt: HostRuntime) -> Result<(), Fail> {
             shown(
                 RUN,
                 "check sample",
-                "sample: failed at 3:12 (division), not reduced\n  found in run 0\n  choices: -\n0 passed, 1 failed, 0 gave up\n",
+                "sample: failed at 3:12 (division), minimal\n  found in run 0\n  choices: -\n0 passed, 1 failed, 0 gave up\n",
                 1,
             ),
+        ),
+        (
+            Way::Passes,
+            shown(
+                RUN,
+                "check sample runs 5\nproperty p runs 2 { assert true; }\n",
+                "sample: passed, 5 valid\np: passed, 2 valid\n2 passed, 0 failed, 0 gave up\n",
+                0,
+            ),
+        ),
+        (
+            Way::Passes,
+            shown(
+                RUN,
+                "check nope",
+                "suite refused at 1:7: unknown check\n",
+                3,
+            ),
+        ),
+        (
+            Way::Passes,
+            shown(RUN, "property p {", "suite refused at 1:13: syntax\n", 3),
         ),
         (
             Way::Passes,
@@ -153,7 +186,7 @@ fn a_check_is_run_or_replayed(rt: HostRuntime) -> Result<(), Fail> {
             ),
         ),
     ] {
-        let done = is_ended(alloc, way, row);
+        let done = is_ended(&rt, alloc, way, row);
         assert_eq!(rt; done, Ok(true), "{way:?} {row:?}");
     }
     Ok(())
@@ -166,7 +199,7 @@ fn notes_are_shown(rt: HostRuntime) -> Result<(), Fail> {
         shown(
             RUN,
             "check sample",
-            "sample: failed at point 2, not reduced\n  found in run 0\n  sample = 1\n  sample = 2\n  choices: bf\n0 passed, 1 failed, 0 gave up\n",
+            "sample: failed at point 2, minimal\n  found in run 0\n  sample = 1\n  sample = 2\n  choices: bf\n0 passed, 1 failed, 0 gave up\n",
             1,
         ),
         shown(
@@ -182,7 +215,7 @@ fn notes_are_shown(rt: HostRuntime) -> Result<(), Fail> {
             0,
         ),
     ] {
-        let done = is_noted(alloc, row);
+        let done = is_noted(&rt, alloc, row);
         assert_eq!(rt; done, Ok(true), "{row:?}");
     }
     Ok(())
@@ -217,7 +250,7 @@ fn a_failure_outside_has_its_status(rt: HostRuntime) -> Result<(), Fail> {
             output,
             status,
         };
-        let done = is_ended(alloc, Way::Passes, row);
+        let done = is_ended(&rt, alloc, Way::Passes, row);
         assert_eq!(rt; done, Ok(true), "{row:?}");
     }
     Ok(())
