@@ -1,0 +1,11 @@
+pub mod AskedLemmas
+pub mod ClashLemmas
+pub mod CrashLemmas
+pub mod EditLemmas
+pub mod FateLemmas
+pub mod MadeLemmas
+pub mod ReadingLemmas
+pub mod SetLemmas
+pub mod SoundLemmas
+pub mod Splits
+pub mod UnderLemmas

@@ -1,0 +1,18 @@
+-- What a store's answer comes to.
+use Rattle.std.specs.Prelude.{◌≡◌, Result, Ok, Err}
+use Rattle.pt_db.specs.declared.fault.StoreFault.{StoreFault}
+use Rattle.pt_db.specs.declared.fault.StoreFault.TheVariants as fault
+use Rattle.pt_edits.specs.declared.stop.StoreStop.{StoreStop}
+use Rattle.pt_edits.specs.declared.stop.StoreStop.TheVariants as stop
+
+-- it stopped by this fault, which is not that of a dead store
+abbrev pub IsStopOf : StoreFault → StoreStop → Type 0
+IsStopOf fault.Disk why = why ≡ stop.Failed
+IsStopOf fault.Dead why = ⊥
+IsStopOf (fault.Clash kept offered) why = why ≡ stop.Clash (record { kept = kept; offered = offered })
+IsStopOf fault.NoMemory why = why ≡ stop.NoMemory
+
+-- it was done, or it stopped by the same fault
+abbrev pub IsAnswerOf : Result (Unit {0}) StoreFault → Result (Unit {0}) StoreStop → Type 0
+IsAnswerOf (Ok done) answer = answer ≡ Ok tt
+IsAnswerOf (Err refusal) answer = (why : StoreStop) × (answer ≡ Err why) × IsStopOf refusal why
