@@ -1,0 +1,4 @@
+pub mod Decimals
+pub mod EachLine
+pub mod Numbered
+pub mod Sound
