@@ -28,8 +28,6 @@ pub struct Store<'d, D: Disk> {
 #[derive(Drop)]
 pub struct NotAttached<'d, D: Disk> {
     pub disk: &'d mut D,
-    /// `StoreFault::Disk`.
-    pub fault: StoreFault,
 }
 
 impl<'d, D: Disk> Store<'d, D> {
@@ -41,13 +39,10 @@ impl<'d, D: Disk> Store<'d, D> {
         ensures alive { IfOk result (λ store. store.dead ≡ false) }
         ensures handed_back { IfErr result (λ lost. lost.disk.ghost_name ≡ disk.entry.ghost_name) }
         ensures failed { IfErr result (λ lost. BothTell (Attached false) (D.tells disk.old) (D.tells lost.disk.now)) }
-        ensures cause { IfErr result (λ lost. (lost.fault ≡ fault.Disk) × HasCause ⊤ (D.faults disk.old) (D.faults lost.disk.now)) }
+        ensures cause { IfErr result (λ lost. HasCause ⊤ (D.faults disk.old) (D.faults lost.disk.now)) }
     {
         if settle(disk).is_err() {
-            return Err(NotAttached {
-                disk,
-                fault: StoreFault::Disk,
-            });
+            return Err(NotAttached { disk });
         }
         Ok(Store {
             disk,

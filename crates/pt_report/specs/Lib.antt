@@ -1,3 +1,4 @@
+pub mod Listing
 pub mod Refusals
 pub mod Report
 pub mod Sorts

@@ -2,6 +2,7 @@
 #![tactic(auto)]
 
 mod ending;
+mod listing;
 mod made;
 mod pieces;
 mod refusal;
@@ -9,6 +10,7 @@ mod report;
 mod shown;
 mod sorts;
 
+pub use listing::listed;
 pub use made::summary;
 pub use refusal::{Refusal, Word, fixed_text, refusal_text};
 pub use report::{block, replayed, tail};

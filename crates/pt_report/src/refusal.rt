@@ -57,7 +57,9 @@ pub fn fixed_text(refusal: &Refusal) -> &'static [u8]
     ensures { result.now ≡ refusal_text refusal.now }
 {
     match *refusal {
-        Refusal::Usage => { b"usage: run SUITE SEED WORKERS | replay SUITE NAME CHOICES\n" }
+        Refusal::Usage => {
+            b"usage: run SUITE SEED WORKERS | replay SUITE NAME CHOICES | stored | make SEED COUNT\n"
+        }
         Refusal::Suite(..) => unreachable!(),
         Refusal::Read => b"suite cannot be read\n",
         Refusal::Database => b"database failed\n",
