@@ -18,7 +18,8 @@ use Rattle.pt_engine.proofs.AgreeLemmas.{findings-agree}
 use Rattle.pt_item.specs.Item.{OfBody}
 use Rattle.pt_item.proofs.NamedLemmas.{same-word}
 use Rattle.pt_turns.specs.Agree.{AllAgree}
-use Rattle.pt_turns.specs.Turns.{AreTurns}
+use Rattle.pt_turns.specs.Examined.{Examined}
+use Rattle.pt_turns.specs.Turns.{AreExamined}
 
 out-some : {X : Type 0} {one other : X} → Some one ≡ Some other → one ≡ other
 out-some is = cc
@@ -55,27 +56,31 @@ one-named name (first ∷ rest) (suc place) (suc again) one other distinct at th
 
 module _ {C : Type 0} (name : C → List ℕ) (step : C → List Choice → Answer → Type 0) (checks : List C) (distinct : AreDistinct (map name checks))
     (seed : ℕ) where
-  abbrev IsFoundBy : List ℕ → Settings → Finding → (List Choice → Answer → Type 0) → Type 0
-  IsFoundBy word settings finding says = IsFinding says word seed settings.runs settings.shrink [] finding × ReplaysItself says finding.verdict
+  module _ (stored : List (List Choice)) where
+    abbrev IsFoundBy : List ℕ → Settings → Finding → (List Choice → Answer → Type 0) → Type 0
+    IsFoundBy word settings finding says = IsFinding says word seed settings.runs settings.shrink stored finding × ReplaysItself says finding.verdict
 
-  body-agrees : (word : List ℕ) (settings : Settings) (body : BodyTree) (one other : Finding) →
-      OfBody name step checks word settings body (IsFoundBy word settings one) →
-      OfBody name step checks word settings body (IsFoundBy word settings other) → Agree one other
-  body-agrees word settings Check_of one other a b =
-      let same : b.1 ≡ a.1 = one-named name checks b.0 a.0 b.1 a.1 distinct b.2 a.2 (b.3 ∙ sym a.3) in
-      let P : C → Type 0 = λ check. IsFoundBy word settings other (step check) in
-      findings-agree (step a.1) word seed settings.runs settings.shrink [] one other a.4.0 (subst P same b.4).0
-  body-agrees word settings (Property_of stmts) one other a b =
-      findings-agree (plan_says (property_plan stmts)) word seed settings.runs settings.shrink [] one other a.0 b.0
-  body-agrees word settings (Machine_of machine) one other a b =
-      findings-agree (plan_says (machine_plan machine settings.steps)) word seed settings.runs settings.shrink [] one other a.0 b.0
+    body-agrees : (word : List ℕ) (settings : Settings) (body : BodyTree) (one other : Finding) →
+        OfBody name step checks word settings body (IsFoundBy word settings one) →
+        OfBody name step checks word settings body (IsFoundBy word settings other) → Agree one other
+    body-agrees word settings Check_of one other a b =
+        let same : b.1 ≡ a.1 = one-named name checks b.0 a.0 b.1 a.1 distinct b.2 a.2 (b.3 ∙ sym a.3) in
+        let P : C → Type 0 = λ check. IsFoundBy word settings other (step check) in
+        findings-agree (step a.1) word seed settings.runs settings.shrink stored one other a.4.0 (subst P same b.4).0
+    body-agrees word settings (Property_of stmts) one other a b =
+        findings-agree (plan_says (property_plan stmts)) word seed settings.runs settings.shrink stored one other a.0 b.0
+    body-agrees word settings (Machine_of machine) one other a b =
+        findings-agree (plan_says (machine_plan machine settings.steps)) word seed settings.runs settings.shrink stored one other a.0 b.0
 
-  pub turns-agree : (items : List ItemTree) (one other : List Finding) → AreTurns name step checks seed items one →
-      AreTurns name step checks seed items other → AllAgree one other
-  turns-agree [] [] [] a b = tt
-  turns-agree [] (one ∷ ones) other a b = elim a [ ]
-  turns-agree [] [] (other ∷ others) a b = elim b [ ]
-  turns-agree (item ∷ items) [] other a b = elim a [ ]
-  turns-agree (item ∷ items) (one ∷ ones) [] a b = elim b [ ]
-  turns-agree (item ∷ items) (one ∷ ones) (other ∷ others) a b =
-      (body-agrees item.name.name item.settings item.body one other a.0.found b.0.found, turns-agree items ones others a.1 b.1)
+    pub item-agrees : (item : ItemTree) (one other : Finding) → Examined name step checks seed stored item one →
+        Examined name step checks seed stored item other → Agree one other
+    item-agrees item one other a b = body-agrees item.name.name item.settings item.body one other a.found b.found
+
+  pub examined-agree : (items : List ItemTree) (one other : List Finding) → AreExamined name step checks seed items one →
+      AreExamined name step checks seed items other → AllAgree one other
+  examined-agree [] [] [] a b = tt
+  examined-agree [] (one ∷ ones) other a b = elim a [ ]
+  examined-agree [] [] (other ∷ others) a b = elim b [ ]
+  examined-agree (item ∷ items) [] other a b = elim a [ ]
+  examined-agree (item ∷ items) (one ∷ ones) [] a b = elim b [ ]
+  examined-agree (item ∷ items) (one ∷ ones) (other ∷ others) a b = (item-agrees [] item one other a.0 b.0, examined-agree items ones others a.1 b.1)

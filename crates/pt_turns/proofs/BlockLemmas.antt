@@ -2,8 +2,8 @@
 use Rattle.std.proofs.Common.{◌≡◌, ℕ, Option, Some, None, List, [], ◌∷◌, ◌++◌, take, refl, sym, ◌∙◌, ap, append_assoc, append-nil}
 use Rattle.pt_found.specs.declared.finding.Finding.{Finding}
 use Rattle.pt_io.specs.Sink.{Appends, AppendsPart}
-use Rattle.pt_report.specs.Report.{IsBlock, AreBlocks, tail, IsReport}
-use Rattle.pt_turns.specs.Blocks.{AreWritten, IsLastCut, IsTailCut}
+use Rattle.pt_report.specs.Report.{IsBlock, AreBlocks}
+use Rattle.pt_turns.specs.Blocks.{AreWritten, AreWrittenAnd, AreWrittenAndPart, IsLastCut}
 
 -- a piece after a piece
 appends-both : (old mid new : Option (List ℕ)) (one other : List ℕ) → Appends old one mid → Appends mid other new → Appends old (one ++ other) new
@@ -33,31 +33,22 @@ module _ (old mid new : Option (List ℕ)) (findings : List Finding) where
   written-more all finding block pushed written is more =
       rw pushed (written.0 ++ block, blocks-more findings finding written.0 block written.1 is, appends-both old mid new written.0 block written.2 more)
 
-  -- a first part of one
+  -- a text after the blocks
+  pub written-and : (text : List ℕ) → AreWritten findings old mid → Appends mid text new → AreWrittenAnd findings text old new
+  written-and text written more = (written.0, written.1, appends-both old mid new written.0 text written.2 more)
+
+  -- a first part of it
+  pub written-and-part : (text : List ℕ) → AreWritten findings old mid → AppendsPart mid text new → AreWrittenAndPart findings text old new
+  written-and-part text written part = (part.0, (written.0, written.1, appends-both old mid new written.0 (take part.0 text) written.2 part.1))
+
+  -- a first part of a block more
   pub last-cut : (all : List Finding) (finding : Finding) (block : List ℕ) → all ≡ findings ++ finding ∷ [] → AreWritten findings old mid →
       IsBlock finding block → AppendsPart mid block new → IsLastCut all old new
   last-cut all finding block pushed written is part = record {
     before = findings;
     last = finding;
     those = pushed;
-    blocks = written.0;
-    whole = written.1;
     block = block;
     its = is;
-    n = part.0;
-    written = appends-both old mid new written.0 (take part.0 block) written.2 part.1;
-  }
-
-  -- the tail after the blocks
-  pub report-written : AreWritten findings old mid → Appends mid (tail findings) new → (text : List ℕ) × IsReport findings text × Appends old text new
-  report-written written more =
-      (written.0 ++ tail findings, (written.0, written.1, refl), appends-both old mid new written.0 (tail findings) written.2 more)
-
-  -- a first part of it
-  pub tail-cut : AreWritten findings old mid → AppendsPart mid (tail findings) new → IsTailCut findings old new
-  tail-cut written part = record {
-    blocks = written.0;
-    whole = written.1;
-    n = part.0;
-    written = appends-both old mid new written.0 (take part.0 (tail findings)) written.2 part.1;
+    written = written-and-part block written part;
   }

@@ -1,6 +1,15 @@
 mod AgreeLemmas
 mod BlockLemmas
+mod CountLemmas
+mod CrashLemmas
+mod EndedLemmas
+mod ExaminedLemmas
 mod FinishLemmas
+mod KeptLemmas
+mod OnwardLemmas
+mod OwnLemmas
 mod ReadyLemmas
-mod TurnLemmas
+mod SameReadings
+mod SettledLemmas
+mod TurningLemmas
 mod TurnsLemmas

@@ -1,58 +1,86 @@
--- How the turns of some items end, and what a run over them comes to.
-use Rattle.std.specs.Prelude.{◌≡◌, ◌⊎◌, ℕ, Bool, List, if◌then◌else◌}
-use Rattle.std.specs.List.{list_all}
+-- How the turns of some items end.
+use Rattle.std.specs.Prelude.{◌≡◌, ◌⊎◌, ℕ, true, false, List, [], length, slice_get, Some, Option}
 use Rattle.pt_choice.specs.declared.choice.Choice.{Choice}
 use Rattle.pt_choice.specs.Faults.{Rose}
 use Rattle.pt_case.specs.Step.{Answer}
-use Rattle.pt_io.specs.Sink.{Written, Appends}
 use Rattle.pt_ast.specs.Trees.{ItemTree}
+use Rattle.pt_disk.specs.Moments.{Told, BothTell}
 use Rattle.pt_found.specs.declared.finding.Finding.{Finding}
-use Rattle.pt_report.specs.Report.{IsReport}
-use Rattle.pt_report.specs.Sorts.{has_passed}
+use Rattle.pt_edits.specs.Clash.{IsClashIn}
+use Rattle.pt_edits.specs.Made.{Made}
+use Rattle.pt_edits.specs.Pairs.{PairEdit, AreUnder}
+use Rattle.pt_edits.specs.declared.stop.StoreStop.{StoreStop}
+use Rattle.pt_edits.specs.declared.stop.StoreStop.TheVariants as stop
+use Rattle.pt_edits.specs.declared.stop.TwoValues.{TwoValues}
 use Rattle.pt_turns.specs.declared.turns.Turned.{Turned}
-use Rattle.pt_turns.specs.declared.turns.Turned.TheVariants.{All, Cut}
+use Rattle.pt_turns.specs.declared.turns.Turned.TheVariants.{All, Cut, Failed, Clashed}
+use Rattle.pt_turns.specs.Blocks.{AreWritten, IsLastCut}
+use Rattle.pt_turns.specs.Scene.{Scene}
+use Rattle.pt_turns.specs.Turn.{Turn, digest_of}
 use Rattle.pt_turns.specs.Turns.{AreTurns, FirstTurns}
-use Rattle.pt_turns.specs.Blocks.{AreWritten, IsLastCut, IsTailCut}
 
--- each of the findings is that its item passed
-abbrev pub all_passed : List Finding → Bool
-all_passed findings = list_all (λ finding. has_passed finding.verdict) findings
+-- these edits are none, or of the item after those of the findings
+abbrev pub AreOfNext : List ItemTree → List Finding → List PairEdit → Type 0
+AreOfNext items findings more =
+    (more ≡ []) ⊎ ((next : ItemTree) × (slice_get items (length findings) ≡ Some next) × AreUnder (digest_of next) more)
 
--- the status of a run with these findings: 0 where all passed, and else 1
-abbrev pub status_of : List Finding → ℕ
-status_of findings = if all_passed findings then 0 else 1
+module _ {C : Type 0} (name : C → List ℕ) (step : C → List Choice → Answer → Type 0) (checks : List C) (seed : ℕ) where
+  -- An item's turn stopped: of some edits under its name all or some first ones were made. Where two values clash, they are the edits of its
+  -- turn.
+  abbrev pub StopsIn : ItemTree → Option Told → Option Told → StoreStop → Type 0
+  StopsIn item old new (stop.Clash two) =
+      (finding : Finding) × (edits : List PairEdit) × Turn name step checks seed old [] item finding edits × AreUnder (digest_of item) edits
+      × BothTell (Made edits false) old new × IsClashIn [] edits old two
+  StopsIn item old new other = (edits : List PairEdit) × AreUnder (digest_of item) edits × BothTell (Made edits false) old new
 
-module _ {C : Type 0} (name : C → List ℕ) (step : C → List Choice → Answer → Type 0) (checks : List C) (seed : ℕ) (items : List ItemTree) where
-  -- All items had their turns, and each block is written; or the output failed in the block of the last finding, and no later item had its turn.
-  abbrev pub Ended : Turned → Written → Written → Type 0
-  Ended (All findings) old new =
-      AreTurns name step checks seed items findings × AreWritten findings old.bytes new.bytes × (new.faults ≡ old.faults)
-  Ended (Cut findings) old new =
-      FirstTurns name step checks seed items findings × IsLastCut findings old.bytes new.bytes × Rose old.faults new.faults
+  module _ (items : List ItemTree) where
+    -- The first items had their turns, as many as there are findings, and all their edits were made. Of the next item's edits all or some
+    -- first ones were made.
+    pub record Halfway (findings : List Finding) (old new : Option Told) : Type 0 where
+      pub edits : List PairEdit
+      pub turns : FirstTurns name step checks seed old items findings edits
+      pub more : List PairEdit
+      pub of_next : AreOfNext items findings more
+      pub mid : Option Told
+      pub made : BothTell (Made edits true) old mid
+      pub partly : BothTell (Made more false) mid new
 
-  -- there was no memory: the blocks of the findings of some first items are written, whole, and nothing more
-  pub record StoppedShort (old new : Written) : Type 0 where
-    pub findings : List Finding
-    pub turns : FirstTurns name step checks seed items findings
-    pub written : AreWritten findings old.bytes new.bytes
-    pub quiet : new.faults ≡ old.faults
+    -- The same, and two values clash in the edits of the next item's turn.
+    pub record HalfwayToClash (findings : List Finding) (two : TwoValues) (old new : Option Told) : Type 0 where
+      pub edits : List PairEdit
+      pub turns : FirstTurns name step checks seed old items findings edits
+      pub next : ItemTree
+      pub stands : slice_get items (length findings) ≡ Some next
+      pub finding : Finding
+      pub more : List PairEdit
+      pub turn : Turn name step checks seed old edits next finding more
+      pub clash : IsClashIn edits more old two
+      pub mid : Option Told
+      pub made : BothTell (Made edits true) old mid
+      pub partly : BothTell (Made more false) mid new
 
-  -- all items had their turns, and the whole report of their findings is written
-  pub record Reported (status : ℕ) (findings : List Finding) (old new : Written) : Type 0 where
-    pub turns : AreTurns name step checks seed items findings
-    pub text : List ℕ
-    pub is : IsReport findings text
-    pub written : Appends old.bytes text new.bytes
-    pub quiet : new.faults ≡ old.faults
-    pub ends : status ≡ status_of findings
+    -- All items had their turns, and each block is written; or the output failed in the block of the last finding, and no later item
+    -- had its turn; or the disk failed in the next item's turn, or two values clash there, and the blocks so far are written.
+    abbrev pub Ended : Turned → Scene → Scene → Type 0
+    Ended (All findings) old new =
+        (edits : List PairEdit) × AreTurns name step checks seed old.disk.told items findings edits
+        × BothTell (Made edits true) old.disk.told new.disk.told × AreWritten findings old.sink.bytes new.sink.bytes
+        × (new.sink.faults ≡ old.sink.faults) × (new.disk.faults ≡ old.disk.faults)
+    Ended (Cut findings) old new =
+        (edits : List PairEdit) × FirstTurns name step checks seed old.disk.told items findings edits
+        × BothTell (Made edits true) old.disk.told new.disk.told × IsLastCut findings old.sink.bytes new.sink.bytes
+        × Rose old.sink.faults new.sink.faults × (new.disk.faults ≡ old.disk.faults)
+    Ended (Failed findings) old new =
+        Halfway findings old.disk.told new.disk.told × AreWritten findings old.sink.bytes new.sink.bytes
+        × (new.sink.faults ≡ old.sink.faults) × Rose old.disk.faults new.disk.faults
+    Ended (Clashed findings two) old new =
+        HalfwayToClash findings two old.disk.told new.disk.told × AreWritten findings old.sink.bytes new.sink.bytes
+        × (new.sink.faults ≡ old.sink.faults) × (new.disk.faults ≡ old.disk.faults)
 
-  -- The output failed: in the block of the last finding, and no later item had its turn; or in the tail, after all items had theirs.
-  pub record Unwritten (status : ℕ) (findings : List Finding) (old new : Written) : Type 0 where
-    pub cut : (FirstTurns name step checks seed items findings × IsLastCut findings old.bytes new.bytes)
-        ⊎ (AreTurns name step checks seed items findings × IsTailCut findings old.bytes new.bytes)
-    pub cause : Rose old.faults new.faults
-    pub ends : status ≡ 5
-
-  -- a run over the items came to this status and these findings
-  abbrev pub Finishes : ℕ → List Finding → Written → Written → Type 0
-  Finishes status findings old new = Reported status findings old new ⊎ Unwritten status findings old new
+    -- There was no memory: the blocks of the findings of some first items are written, whole, and nothing more.
+    pub record EndedShort (old new : Scene) : Type 0 where
+      pub findings : List Finding
+      pub halfway : Halfway findings old.disk.told new.disk.told
+      pub written : AreWritten findings old.sink.bytes new.sink.bytes
+      pub sink_quiet : new.sink.faults ≡ old.sink.faults
+      pub disk_quiet : new.disk.faults ≡ old.disk.faults

@@ -1,6 +1,13 @@
 pub mod Ready
+pub mod Examined
 pub mod Turn
 pub mod Turns
 pub mod Blocks
+pub mod Scene
 pub mod Ended
+pub mod Finishes
+pub mod Settling
+pub mod Added
 pub mod Agree
+pub mod Kept
+pub mod Crash

@@ -1,17 +1,30 @@
 //! What follows of the turns of any items. These functions do nothing: their contracts are the laws.
 
-ghost use Rattle.std.specs.Prelude.{ℕ, List, map};
+ghost use Rattle.std.specs.Prelude.{◌≡◌, ◌⊎◌, ◌++◌, ℕ, List, [], map, Option, Some};
 ghost use Rattle.pt_ast.specs.Bounds.{IsBounded};
 ghost use Rattle.pt_ast.specs.Names.{AreDistinct};
 ghost use Rattle.pt_ast.specs.Suites.{IsTyped};
 ghost use Rattle.pt_ast.specs.Trees.{ItemTree, SuiteTree};
+ghost use Rattle.pt_disk.specs.Files.{Files};
+ghost use Rattle.pt_disk.specs.Folder.{reads, IsImage};
+ghost use Rattle.pt_disk.specs.Leaves.{IsTidy};
+ghost use Rattle.pt_disk.specs.Moments.{Told, now, IsImageSince};
+ghost use Rattle.pt_edits.specs.Pairs.{PairEdit, IsAfter};
 ghost use Rattle.pt_found.specs.declared.finding.Finding.{Finding};
-ghost use Rattle.pt_turns.specs.Agree.{AllAgree};
+ghost use Rattle.pt_stored.specs.Stored.{SameStored, pending};
+ghost use Rattle.pt_turns.specs.Agree.{AllAgree, AgreeWhereOwn};
+ghost use Rattle.pt_turns.specs.Blocks.{AreWritten};
+ghost use Rattle.pt_turns.specs.Crash.{IsMidway};
+ghost use Rattle.pt_turns.specs.Finishes.{Finishes, StoppedShort};
+ghost use Rattle.pt_turns.specs.Kept.{AreKept};
 ghost use Rattle.pt_turns.specs.Ready.{AreReady};
-ghost use Rattle.pt_turns.specs.Turns.{AreTurns};
+ghost use Rattle.pt_turns.specs.Scene.{Scene};
+ghost use Rattle.pt_turns.specs.Turns.{AreExamined, AreTurns};
+ghost use Rattle.pt_turns.specs.declared.reporting.Reported.{Reported};
 
 use pt_case::Check;
 use pt_item::typed_items_are_handed_in;
+use pt_wire::one_list;
 
 /// The items of a suite that keeps its bounds and is well typed can be examined.
 pub fn sound_items_are_ready()
@@ -20,10 +33,38 @@ pub fn sound_items_are_ready()
     typed_items_are_handed_in();
 }
 
-/// Of the same items and checks, whose names are distinct, and the same seed all turns find the same but for the reductions, whatever
-/// numbers of workers made them.
+/// Of the same items and checks, whose names are distinct, and the same seed the same is found but for the reductions, whatever numbers
+/// of workers made them: with nothing stored of each item, and in two runs over disks that store the same of each item whose name's
+/// digest is that of no earlier name. Of the others it is not said, since what is stored for them depends on earlier reductions.
 pub fn workers_change_no_finding<C: Check>(checks: &[C])
     requires { AreDistinct (map C.name checks.now) }
-    ensures { (seed : ℕ) (items : List ItemTree) (one other : List Finding) → AreTurns C.name C.step checks.now seed items one →
-        AreTurns C.name C.step checks.now seed items other → AllAgree one other }
+    ensures made { (seed : ℕ) (items : List ItemTree) (one other : List Finding) → AreExamined C.name C.step checks.now seed items one →
+        AreExamined C.name C.step checks.now seed items other → AllAgree one other }
+    ensures run { (seed : ℕ) (told telling : Told) (items : List ItemTree) (one other : List Finding) (edits more : List PairEdit) →
+        SameStored (reads (now told)) (reads (now telling)) → AreTurns C.name C.step checks.now seed (Some told) items one edits →
+        AreTurns C.name C.step checks.now seed (Some telling) items other more → AgreeWhereOwn [] items one other }
+{
+    one_list();
+}
+
+/// After the turns of some items each failure that is shown is stored, in version 2, unless a later item's name has the digest of its item's name.
+/// So it is after these edits and further ones, under other digests.
+pub fn what_is_shown_is_stored<C: Check>(checks: &[C])
+    ensures { (seed : ℕ) (told : Option Told) (items : List ItemTree) (findings : List Finding) (edits more : List PairEdit) (start image : Files)
+        → AreTurns C.name C.step checks.now seed told items findings edits → IsAfter (edits ++ more) start image
+        → AreKept image more items findings }
+{}
+
+/// Of a run that began on a tidy disk a crash at any moment since leaves what it might have left at the start, or what was stored at the start
+/// after some first ones of the run's edits. Those are the edits of the turns, in order, and where the run ended before its last item, of the next one's.
+pub fn a_crash_leaves_first_edits<C: Check>(checks: &[C])
+    ensures ended { (seed : ℕ) (items : List ItemTree) (reported : Reported) (old new : Scene) (start end : Told) (image : Files)
+        → Finishes C.name C.step checks.now seed items reported old new → old.disk.told ≡ Some start → new.disk.told ≡ Some end
+        → IsTidy pending (now start) → IsImageSince end start.clock image
+        → IsImage (now start) image ⊎ IsMidway C.name C.step checks.now seed items reported.findings start image }
+    ensures short { (seed : ℕ) (items : List ItemTree) (old new : Scene) (start end : Told) (image : Files)
+        → StoppedShort C.name C.step checks.now seed items old new → old.disk.told ≡ Some start → new.disk.told ≡ Some end
+        → IsTidy pending (now start) → IsImageSince end start.clock image
+        → IsImage (now start) image
+        ⊎ ((findings : List Finding) × AreWritten findings old.sink.bytes new.sink.bytes × IsMidway C.name C.step checks.now seed items findings start image) }
 {}

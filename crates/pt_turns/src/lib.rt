@@ -6,9 +6,14 @@
 
 mod examining;
 mod laws;
+mod one_turn;
 mod reporting;
+mod settling;
 mod turns;
 
-pub use laws::{sound_items_are_ready, workers_change_no_finding};
-pub use reporting::{Reported, report};
-pub use turns::{Turned, examine_all, examine_items};
+pub use laws::{
+    a_crash_leaves_first_edits, sound_items_are_ready, what_is_shown_is_stored,
+    workers_change_no_finding,
+};
+pub use reporting::{Reported, report, status_of};
+pub use turns::{Turned, examine_all, turn_items};

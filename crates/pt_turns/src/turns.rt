@@ -1,16 +1,20 @@
-ghost use Rattle.std.specs.Prelude.{◌≤◌, map, IfOk, OnErr};
+ghost use Rattle.std.specs.Prelude.{◌≡◌, ◌≤◌, false, map, IfOk, OnErr};
 ghost use Rattle.pt_ast.specs.Plain.{plain_item};
 ghost use Rattle.pt_turns.specs.Ready.{AreReady};
-ghost use Rattle.pt_turns.specs.Turns.{AreTurns};
-ghost use Rattle.pt_turns.specs.Ended.{Ended, StoppedShort};
+ghost use Rattle.pt_turns.specs.Scene.{scene};
+ghost use Rattle.pt_turns.specs.Turns.{AreExamined};
+ghost use Rattle.pt_turns.specs.Ended.{Ended, EndedShort};
 
 use crate::examining::examine_item;
+use crate::one_turn::take_turn;
 use pt_ast::Item;
-use pt_case::Check;
+use pt_case::{Check, ChoiceLists};
 use pt_choice::NoMemory;
+use pt_db::Store;
+use pt_disk::Disk;
+use pt_edits::{StoreStop, TwoValues};
 use pt_found::Findings;
 use pt_io::{Sink, write_all};
-use pt_report::block;
 use std::alloc::Global;
 use std::thread::Threads;
 
@@ -21,42 +25,58 @@ pub enum Turned {
     All(Findings),
     /// The output failed in the block of the last of these findings.
     Cut(Findings),
+    /// The disk failed in the turn of the next item.
+    Failed(Findings),
+    /// Two values of one digest were met in the turn of the next item.
+    Clashed(Findings, TwoValues),
 }
 
-/// Examines items in order, each with its own settings, and writes the block of each before the next one is examined. Between two
-/// items no memory is in use but that of the findings.
+/// Gives each item its turn, in order: what is stored under its name is read, the item is examined with its own settings, the edits are
+/// made, and its block is written. Between two items no memory is in use but that of the findings.
 ///
 /// # Errors
 ///
 /// `NoMemory` where memory ran out, and for no other reason. The blocks that are written by then are whole.
-pub fn examine_items<R: Threads + Sync, C: Check, K: Sink>(
+pub fn turn_items<R: Threads + Sync, C: Check, D: Disk, K: Sink>(
     rt: &R,
     alloc: Global,
     items: &[Item],
     checks: &[C],
     seed: u64,
     workers: u32,
+    store: &mut Store<'_, D>,
     sink: &mut K,
 ) -> Result<Turned, NoMemory>
     requires ready { AreReady (map C.name checks.now) (map plain_item items.now) }
     requires workers { (1 ≤ workers) × (workers ≤ 16) }
-    ensures ended { IfOk result (λ turned. Ended C.name C.step checks.now seed (map plain_item items.now) turned (K.shows sink.old) (K.shows sink.new)) }
-    ensures memory { OnErr result (StoppedShort C.name C.step checks.now seed (map plain_item items.now) (K.shows sink.old) (K.shows sink.new)) }
+    requires alive { store.old.dead ≡ false }
+    ensures same_reference { store.new.disk.ghost_name ≡ store.old.disk.ghost_name }
+    ensures ended { IfOk result (λ turned. Ended C.name C.step checks.now seed (map plain_item items.now) turned
+        (scene (D.faults store.old.disk.now) (D.tells store.old.disk.now) (K.shows sink.old))
+        (scene (D.faults store.new.disk.now) (D.tells store.new.disk.now) (K.shows sink.new))) }
+    ensures memory { OnErr result (EndedShort C.name C.step checks.now seed (map plain_item items.now)
+        (scene (D.faults store.old.disk.now) (D.tells store.old.disk.now) (K.shows sink.old))
+        (scene (D.faults store.new.disk.now) (D.tells store.new.disk.now) (K.shows sink.new))) }
     ensures later { (K.shows sink.old).faults ≤ (K.shows sink.new).faults }
+    ensures later_disk { D.faults store.old.disk.now ≤ D.faults store.new.disk.now }
 {
     let mut findings = Findings::empty(alloc);
     for item in items {
-        let finding = examine_item(rt, alloc, item, checks, seed, workers)?;
-        let text = block(alloc, &finding)?;
-        findings.push(finding)?;
-        let Ok(()) = write_all(sink, text.as_slice()) else {
+        let turning = match take_turn(rt, alloc, item, checks, seed, workers, store) {
+            Ok(turning) => turning,
+            Err(StoreStop::Failed) => return Ok(Turned::Failed(findings)),
+            Err(StoreStop::Clash(two)) => return Ok(Turned::Clashed(findings, two)),
+            Err(StoreStop::NoMemory) => return Err(NoMemory),
+        };
+        findings.push(turning.finding)?;
+        let Ok(()) = write_all(sink, turning.block.as_slice()) else {
             return Ok(Turned::Cut(findings));
         };
     }
     Ok(Turned::All(findings))
 }
 
-/// Examines items in order, each with its own settings, and writes nothing.
+/// Examines items in order, each with its own settings, with nothing stored, and writes nothing.
 ///
 /// # Errors
 ///
@@ -71,11 +91,12 @@ pub fn examine_all<R: Threads + Sync, C: Check>(
 ) -> Result<Findings, NoMemory>
     requires ready { AreReady (map C.name checks.now) (map plain_item items.now) }
     requires workers { (1 ≤ workers) × (workers ≤ 16) }
-    ensures { IfOk result (λ findings. AreTurns C.name C.step checks.now seed (map plain_item items.now) findings) }
+    ensures { IfOk result (λ findings. AreExamined C.name C.step checks.now seed (map plain_item items.now) findings) }
 {
+    let stored = ChoiceLists::empty(alloc);
     let mut findings = Findings::empty(alloc);
     for item in items {
-        findings.push(examine_item(rt, alloc, item, checks, seed, workers)?)?;
+        findings.push(examine_item(rt, alloc, item, checks, seed, &stored, workers)?)?;
     }
     Ok(findings)
 }

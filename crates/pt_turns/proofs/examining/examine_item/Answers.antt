@@ -1,6 +1,6 @@
 use Rattle.pt_ast.proofs.Shared.{trees_cross}
 use Rattle.pt_item.proofs.Shared.{check_send, check_sync}
-use Rattle.pt_turns.proofs.TurnLemmas.{result-turn}
+use Rattle.pt_turns.proofs.ExaminedLemmas.{result-examined}
 use Rattle.pt_turns.proofs.examining.examine_item.Goals as goal
 
 pub examine-requires-send-C : goal.examine-requires-send-C
@@ -11,5 +11,5 @@ examine-requires-sync-C g c κs within = search (trees_cross, check_sync) depth 
 
 pub returns : goal.returns
 returns g c =
-    result-turn g.C.Check.name g.C.Check.step c.args.checks.now _ c.of-check.result c.of-check.ensures c.an_item_notes_what_it_draws.ensures c.args.seed
-    c.examine.result (rw c.empty-stored.ensures at c.examine.ensures.finding) c.examine.ensures.replays
+    result-examined g.C.Check.name g.C.Check.step c.args.checks.now _ c.of-check.result c.of-check.ensures c.an_item_notes_what_it_draws.ensures
+    c.args.seed c.args.stored.now c.examine.result c.examine.ensures.finding c.examine.ensures.replays

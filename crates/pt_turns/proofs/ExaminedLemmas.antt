@@ -1,5 +1,5 @@
--- One item's turn, by what is found out of its check.
-use Rattle.std.proofs.Common.{◌≡◌, ℕ, Bool, true, false, List, [], Result, Ok, Err, subst}
+-- What is found out of one item, by what is found out of its check.
+use Rattle.std.proofs.Common.{◌≡◌, ℕ, Bool, true, false, List, Result, Ok, Err, subst}
 use Rattle.std.specs.Prelude.{IfOk}
 use Rattle.pt_choice.specs.declared.choice.Choice.{Choice}
 use Rattle.pt_case.specs.declared.ending.Ending.{Ending}
@@ -19,7 +19,7 @@ use Rattle.pt_item.specs.Check.{check_name, check_step, IsCheckOf}
 use Rattle.pt_item.specs.Noted.{NotedBy}
 use Rattle.pt_item.specs.declared.item_check.ItemCheck.{ItemCheck}
 use Rattle.pt_item.proofs.ItemLemmas.{said-of-item}
-use Rattle.pt_turns.specs.Turn.{ShowsItsNotes, Turn}
+use Rattle.pt_turns.specs.Examined.{ShowsItsNotes, Examined}
 
 failure-no-pass : (ending : Ending) → is_failure ending ≡ true → is_pass ending ≡ false
 failure-no-pass Pass is = cc
@@ -39,20 +39,20 @@ module _ {C : Type 0} (name : C → List ℕ) (step : C → List Choice → Answ
       let P : Bool → Type 0 = λ passed. NotedBy item passed shown.notes in
       subst P (failure-no-pass shown.ending replays.1) (notes item (Listed shown.choices) shown of)
 
-  pub turn-of-check : (seed : ℕ) (finding : Finding) →
-      IsFinding (check_step step check) (check_name name check) seed item.settings.runs item.settings.shrink [] finding →
-      ReplaysItself (check_step step check) finding.verdict → Turn name step checks seed [] item finding
-  turn-of-check seed finding found replays =
-      let P : List ℕ → Type 0 = λ word. IsFinding (check_step step check) word seed item.settings.runs item.settings.shrink [] finding in
+  pub examined-of-check : (seed : ℕ) (stored : List (List Choice)) (finding : Finding) →
+      IsFinding (check_step step check) (check_name name check) seed item.settings.runs item.settings.shrink stored finding →
+      ReplaysItself (check_step step check) finding.verdict → Examined name step checks seed stored item finding
+  examined-of-check seed stored finding found replays =
+      let P : List ℕ → Type 0 = λ word. IsFinding (check_step step check) word seed item.settings.runs item.settings.shrink stored finding in
       record {
         found = said-of-item name step checks item
-            (λ says. IsFinding says item.name.name seed item.settings.runs item.settings.shrink [] finding × ReplaysItself says finding.verdict)
+            (λ says. IsFinding says item.name.name seed item.settings.runs item.settings.shrink stored finding × ReplaysItself says finding.verdict)
             check is (subst P is.named found, replays);
         noted = shows-notes finding.verdict replays;
       }
 
-  pub result-turn : {E : Type 0} (seed : ℕ) (result : Result Finding E) →
-      IfOk result (IsFinding (check_step step check) (check_name name check) seed item.settings.runs item.settings.shrink []) →
-      IfOk result (λ finding. ReplaysItself (check_step step check) finding.verdict) → IfOk result (Turn name step checks seed [] item)
-  result-turn seed (Ok finding) found replays = turn-of-check seed finding found replays
-  result-turn seed (Err why) found replays = tt
+  pub result-examined : {E : Type 0} (seed : ℕ) (stored : List (List Choice)) (result : Result Finding E) →
+      IfOk result (IsFinding (check_step step check) (check_name name check) seed item.settings.runs item.settings.shrink stored) →
+      IfOk result (λ finding. ReplaysItself (check_step step check) finding.verdict) → IfOk result (Examined name step checks seed stored item)
+  result-examined seed stored (Ok finding) found replays = examined-of-check seed stored finding found replays
+  result-examined seed stored (Err why) found replays = tt

@@ -1,0 +1,22 @@
+-- What a crash leaves of the database in the course of a run.
+use Rattle.std.specs.Prelude.{ℕ, List, ◌++◌, Some}
+use Rattle.pt_choice.specs.declared.choice.Choice.{Choice}
+use Rattle.pt_case.specs.Step.{Answer}
+use Rattle.pt_ast.specs.Trees.{ItemTree}
+use Rattle.pt_disk.specs.Files.{Files}
+use Rattle.pt_disk.specs.Folder.{reads}
+use Rattle.pt_disk.specs.Moments.{Told, now}
+use Rattle.pt_found.specs.declared.finding.Finding.{Finding}
+use Rattle.pt_edits.specs.Pairs.{PairEdit, IsAfterSome}
+use Rattle.pt_turns.specs.Ended.{AreOfNext}
+use Rattle.pt_turns.specs.Turns.{FirstTurns}
+
+-- These files store what was stored at the start of the run, after some first ones of its edits: those of the turns of the first items, whose
+-- findings these are, and then those of the next one.
+pub record IsMidway {C : Type 0} (name : C → List ℕ) (step : C → List Choice → Answer → Type 0) (checks : List C) (seed : ℕ) (items : List ItemTree)
+    (findings : List Finding) (start : Told) (image : Files) : Type 0 where
+  pub edits : List PairEdit
+  pub turns : FirstTurns name step checks seed (Some start) items findings edits
+  pub more : List PairEdit
+  pub of_next : AreOfNext items findings more
+  pub stored : IsAfterSome (edits ++ more) (reads (now start)) image
