@@ -1,10 +1,9 @@
 -- Where the words ask for what can be done, and no call of the outside fails, it is done.
-use Rattle.std.proofs.Common.{◌≡◌, ◌⊎◌, inl, inr, ℕ, ◌<◌, Bool, true, false, List, refl, sym, ◌∙◌, subst, arith, lit<, if◌then◌else◌, Global}
-use Rattle.std.specs.Prelude.{String, Option, Some, map}
-use Rattle.std.specs.List.{list_all}
+use Rattle.std.proofs.Common.{◌≡◌, ◌⊎◌, inl, inr, ℕ, ◌<◌, Bool, true, false, List, refl, sym, ◌∙◌, subst, arith, lit<, if◌then◌else◌}
+use Rattle.std.specs.Prelude.{Option, Some, None, map}
 use Rattle.pt_choice.specs.Faults.{Rose}
 use Rattle.pt_choice.specs.declared.choice.Choice.{Choice}
-use Rattle.pt_ast.specs.Trees.{SuiteTree}
+use Rattle.pt_ast.specs.Trees.{ItemTree, SuiteTree}
 use Rattle.pt_parse.specs.Suites.{Reads, HasFault}
 use Rattle.pt_parse.specs.declared.fault.SuiteFault.{SuiteFault}
 use Rattle.pt_typing.specs.Laws.{SuitesAreDecided}
@@ -12,45 +11,24 @@ use Rattle.pt_typing.specs.SuiteFaults.{FaultInSuite}
 use Rattle.pt_case.specs.Ending.{is_failure}
 use Rattle.pt_case.specs.Step.{Answer}
 use Rattle.pt_case.specs.declared.record.Record.{Record}
-use Rattle.pt_io.specs.Files.{Shown, HasBytes}
+use Rattle.pt_io.specs.Files.{Shown}
 use Rattle.pt_io.specs.Reading.{IsWithinLimit, IsPastLimit}
-use Rattle.pt_io.specs.Sink.{Written, Appends}
-use Rattle.pt_report.specs.Report.{IsReplay}
-use Rattle.pt_report.specs.Sorts.{has_passed}
+use Rattle.pt_io.specs.Sink.{Appends, AppendsPart}
+use Rattle.pt_report.specs.Report.{IsReplay, summary}
 use Rattle.pt_report.specs.declared.refusal.Refusal.{Refusal}
 use Rattle.pt_report.specs.declared.refusal.Refusal.TheVariants as refusal
-use Rattle.pt_turns.specs.Ended.{Finishes, Reported, Unwritten}
-use Rattle.pt_run.specs.declared.finish.Finish.{Finish}
+use Rattle.pt_stored.specs.declared.entry.Entry.{Entry}
+use Rattle.pt_turns.specs.Finishes as turns
 use Rattle.pt_run.specs.declared.message.Message.{Message}
-use Rattle.pt_run.specs.declared.message.Message.TheVariants.{Refused, Replayed}
-use Rattle.pt_run.specs.Call.{Call, Answers, HasWanted, IsDone, IsDue, IsQuiet, IsRunnable}
-use Rattle.pt_run.specs.Ends.{Does, Ends, IsItem, Says}
-use Rattle.pt_run.specs.Message.{Tells, TellsAll, TellsPart, status_of}
+use Rattle.pt_run.specs.declared.message.Message.TheVariants.{Refused, Replayed, Listed}
+use Rattle.pt_run.specs.Call.{Call, Answers, HasSuite, IsDone, IsQuiet, IsRunnable}
+use Rattle.pt_run.specs.Ends.{Ends, IsItem, Lists, OnSuite, Says, Sums, reported_of}
+use Rattle.pt_run.specs.Message.{Tells, TellsAll, TellsPart}
+use Rattle.pt_run.specs.Outside.{scene_of}
 use Rattle.pt_run.specs.Suite.{IsFaulty, IsTaken, IsTurnedDown}
-use Rattle.pt_run.specs.Words.{Asked, Run, Replay, Asks, suite_of}
+use Rattle.pt_run.specs.Words.{Asked, Run, Replay, Stored, Make, Asks}
+use Rattle.pt_run.proofs.Asking.{Alike, asks_alike}
 use Rattle.pt_run.proofs.Messages.{HasBytes-at, HasNone-not}
-
--- what is asked for is the same, as far as the words tell
-pub record AreAlike (one other : Asked) : Type 0 where
-  pub suites : suite_of one ≡ suite_of other
-  pub wanted : (suite : SuiteTree) → HasWanted other suite → HasWanted one suite
-  pub due : (finish : Finish) (text : List ℕ) → IsDue one finish text → IsDue other finish text
-
--- two readings of the words ask for the same suite and the same item
-pub asks_alike : (words : List (String Global)) (one other : Asked) → Asks words one → Asks words other → AreAlike one other
-asks_alike words (Run suite seed workers) (Run suite' seed' workers') one other =
-    let same = sym one.spelled ∙ other.spelled in
-    record { suites = cc; wanted = λ suite has. tt; due = λ finish text due. due }
-asks_alike words (Run suite seed workers) (Replay suite' item list) one other = absurd (let same = sym one.spelled ∙ other.spelled in cc)
-asks_alike words (Replay suite item list) (Run suite' seed workers) one other = absurd (let same = sym one.spelled ∙ other.spelled in cc)
-asks_alike words (Replay suite item list) (Replay suite' item' list') one other =
-    let same = sym one.spelled ∙ other.spelled in
-    let items : item ≡ item' = cc in
-    record {
-      suites = cc;
-      wanted = λ tree has. (has.0, (has.1.0, has.1.1 ∙ sym items));
-      due = λ finish text due. (due.0, due.1, subst (λ (i : List ℕ). IsReplay i due.0 text) items due.2, due.3);
-    }
 
 below_passed : (passed : Bool) → (if passed then 0 else 1) < 2
 below_passed true = lit< tt
@@ -70,108 +48,163 @@ module _ (one_suite : (bytes : List ℕ) (suite other : SuiteTree) → Reads byt
 
 module _ (one_suite : (bytes : List ℕ) (suite other : SuiteTree) → Reads bytes suite → Reads bytes other → suite ≡ other)
     (not_both : (bytes : List ℕ) (suite : SuiteTree) (fault : SuiteFault) → Reads bytes suite → HasFault bytes fault → ⊥) (decided : SuitesAreDecided)
-    (known : List (List ℕ)) where
+    (known : List (List ℕ)) (old new : Shown) (file : List ℕ) (Holds : SuiteTree → Type 0) (runnable : HasSuite known old file Holds) where
   -- a text that can be taken has no fault
-  no_fault : (bytes : List ℕ) (said : Refusal) (files : Shown) (asked : Asked) (runnable : IsRunnable known files asked) → IsFaulty known runnable.bytes said → ⊥
-  no_fault bytes said files asked runnable (inl (fault, has, is)) = not_both runnable.bytes runnable.suite fault runnable.reads has
-  no_fault bytes said files asked runnable (inr (suite, fault, reads, has, is)) =
+  no_fault : (said : Refusal) → IsFaulty known runnable.bytes said → ⊥
+  no_fault said (inl (fault, has, is)) = not_both runnable.bytes runnable.suite fault runnable.reads has
+  no_fault said (inr (suite, fault, reads, has, is)) =
       let same : suite ≡ runnable.suite = one_suite runnable.bytes suite runnable.suite reads runnable.reads in
       let here : FaultInSuite known runnable.suite fault = subst (λ (s : SuiteTree). FaultInSuite known s fault) same has in
       (decided known runnable.suite).not_both tt fault runnable.typed here
 
   -- where no call of the files failed that could fail, the suite is taken
-  pub is_taken : (old new : Shown) (asked : Asked) (said : Refusal) → IsTurnedDown known old new (suite_of asked) said → IsRunnable known old asked →
-      (old.steady ≡ true) ⊎ (Rose old.faults new.faults → ⊥) → ⊥
-  is_taken old new asked refusal.Usage turned runnable quiet = turned
-  is_taken old new asked (refusal.Suite at which) turned runnable quiet =
-      let here = HasBytes-at old (suite_of asked) (λ bytes. IsWithinLimit bytes × IsFaulty known bytes (refusal.Suite at which)) runnable.content runnable.bytes
+  is_taken : (said : Refusal) → IsTurnedDown known old new file said → (old.steady ≡ true) ⊎ (Rose old.faults new.faults → ⊥) → ⊥
+  is_taken refusal.Usage turned quiet = turned
+  is_taken (refusal.Suite at which) turned quiet =
+      let here = HasBytes-at old file (λ bytes. IsWithinLimit bytes × IsFaulty known bytes (refusal.Suite at which)) runnable.content runnable.bytes
       turned.1 runnable.told runnable.there in
-      no_fault runnable.bytes (refusal.Suite at which) old asked runnable here.1
-  is_taken old new asked refusal.Read turned runnable (inl steady) =
-      HasNone-not old (suite_of asked) runnable.content runnable.bytes (turned.1 steady) runnable.told runnable.there
-  is_taken old new asked refusal.Read turned runnable (inr calm) = calm turned.0
-  is_taken old new asked refusal.Database turned runnable quiet = turned
-  is_taken old new asked refusal.Clash turned runnable quiet = turned
-  is_taken old new asked refusal.TooLarge turned runnable quiet =
-      let large = HasBytes-at old (suite_of asked) IsPastLimit runnable.content runnable.bytes turned.1 runnable.told runnable.there in
+      no_fault (refusal.Suite at which) here.1
+  is_taken refusal.Read turned (inl steady) = HasNone-not old file runnable.content runnable.bytes (turned.1 steady) runnable.told runnable.there
+  is_taken refusal.Read turned (inr calm) = calm turned.0
+  is_taken refusal.Database turned quiet = turned
+  is_taken refusal.Clash turned quiet = turned
+  is_taken refusal.TooLarge turned quiet =
+      let large = HasBytes-at old file IsPastLimit runnable.content runnable.bytes turned.1 runnable.told runnable.there in
       absurd (omega (arith, large, runnable.small))
-  is_taken old new asked refusal.UnknownItem turned runnable quiet = turned
+  is_taken refusal.UnknownItem turned quiet = turned
 
--- the same can be done where the same is asked for
-pub runnable_alike : (known : List (List ℕ)) (files : Shown) (one other : Asked) → AreAlike one other → IsRunnable known files other → IsRunnable known files one
-runnable_alike known files one other alike runnable = record {
-  content = runnable.content;
-  told = runnable.told;
-  bytes = runnable.bytes;
-  there = rw alike.suites runnable.there;
-  small = runnable.small;
-  suite = runnable.suite;
-  reads = runnable.reads;
-  typed = runnable.typed;
-  has = alike.wanted runnable.suite runnable.has;
+-- the same file is there under the same name
+pub suite_at : (known : List (List ℕ)) (files : Shown) (file other : List ℕ) (Holds Also : SuiteTree → Type 0) → file ≡ other →
+    ((suite : SuiteTree) → Holds suite → Also suite) → HasSuite known files other Holds → HasSuite known files file Also
+suite_at known files file other Holds Also same follows has = record {
+  content = has.content;
+  told = has.told;
+  bytes = has.bytes;
+  there = rw same has.there;
+  small = has.small;
+  suite = has.suite;
+  reads = has.reads;
+  typed = has.typed;
+  has = follows has.suite has.has;
 }
 
--- the call came to its end with what is due
-record Came (asked : Asked) (finish : Finish) (old new : Written) : Type 0 where
-  pub below : finish.status < 2
-  pub text : List ℕ
-  pub due : IsDue asked finish text
-  pub written : Appends old.bytes text new.bytes
-
 module _ {C : Type 0} (name : C → List ℕ) (step : C → List Choice → Answer → Type 0) (checks : List C) where
+  module _ (one_suite : (bytes : List ℕ) (suite other : SuiteTree) → Reads bytes suite → Reads bytes other → suite ≡ other)
+      (not_both : (bytes : List ℕ) (suite : SuiteTree) (fault : SuiteFault) → Reads bytes suite → HasFault bytes fault → ⊥) (decided : SuitesAreDecided) where
+    -- what is to be done is done with the suite of the file
+    pub on_suite : (call : Call) (file : List ℕ) (Does : SuiteTree → Type 0) (Holds : SuiteTree → Type 0) →
+        OnSuite name step checks file Does call.before call.after call.finish → (has : HasSuite (map name checks) call.before.files file Holds) →
+        (call.before.files.steady ≡ true) ⊎ (Rose call.before.files.faults call.after.files.faults → ⊥) → Does has.suite
+    on_suite call file Does Holds (inl (suite, taken, does)) has quiet =
+        let same = is_suite one_suite (map name checks) call.before.files call.after.files file suite has.suite has.content has.bytes taken has.told has.there has.reads in
+        subst (λ (s : SuiteTree). Does s) same does
+    on_suite call file Does Holds (inr (said, turned, tells, rests)) has quiet =
+        absurd (is_taken one_suite not_both decided (map name checks) call.before.files call.after.files file Holds has said turned quiet)
+
+  -- a run that came to its end without a fault and without a clash is done
+  of_run : (call : Call) (seed : ℕ) (items : List ItemTree) (file : List ℕ) (seed' workers : ℕ) →
+      turns.Finishes name step checks seed items (reported_of call.finish) (scene_of call.before) (scene_of call.after) → IsQuiet call → IsDone (Run file seed' workers) call
+  of_run call seed items file seed' workers (inl whole) quiet = record {
+    below = let below = below_passed (turns.all_passed call.finish.findings) in omega (arith, whole.ends, below);
+    text = whole.text;
+    due = (whole.is, whole.ends);
+    written = whole.written;
+  }
+  of_run call seed items file seed' workers (inr (inl unstored)) quiet = absurd (quiet.disk unstored.cause)
+  of_run call seed items file seed' workers (inr (inr (inl clashed))) quiet =
+      absurd (let none : Some clashed.two ≡ None = sym clashed.shown ∙ quiet.no_clash in cc)
+  of_run call seed items file seed' workers (inr (inr (inr unwritten))) quiet = absurd (quiet.sink unwritten.cause)
+
   -- a record that was told was shown whole
-  of_record : (file wanted : List ℕ) (list : List Choice) (shown : List ℕ) (rec : Record) (finish : Finish) (old new : Written) → shown ≡ wanted →
-      Tells (Replayed shown rec) finish old new → (Rose old.faults new.faults → ⊥) → Came (Replay file wanted list) finish old new
-  of_record file wanted list shown rec finish old new is tells quiet = of_told tells.told
+  of_record : (call : Call) (file wanted : List ℕ) (list : List Choice) (shown : List ℕ) (rec : Record) → shown ≡ wanted →
+      Tells (Replayed shown rec) call.finish call.before.sink call.after.sink → IsQuiet call → IsDone (Replay file wanted list) call
+  of_record call file wanted list shown rec is tells quiet = of_told tells.told
     where
-      of_told : TellsAll (Replayed shown rec) tells.text finish old new ⊎ TellsPart tells.text finish old new → Came (Replay file wanted list) finish old new
+      of_told : TellsAll (Replayed shown rec) tells.text call.finish call.before.sink call.after.sink ⊎ TellsPart tells.text call.finish call.before.sink call.after.sink →
+          IsDone (Replay file wanted list) call
       of_told (inl all) = record {
         below = let below = below_failed (is_failure rec.ending) in omega (arith, all.status, below);
         text = tells.text;
         due = (rec, all.replayed, subst (λ (i : List ℕ). IsReplay i rec tells.text) is tells.is_text, all.status);
         written = all.written;
       }
-      of_told (inr part) = absurd (quiet part.cause)
+      of_told (inr part) = absurd (quiet.sink part.cause)
 
-  came : (asked : Asked) (suite : SuiteTree) (finish : Finish) (old new : Written) → Does name step checks asked suite finish old new → HasWanted asked suite →
-      (Rose old.faults new.faults → ⊥) → Came asked finish old new
-  came (Run file seed workers) suite finish old new (inl reported, none) has quiet = record {
-    below = let below = below_passed (list_all (λ finding. has_passed finding.verdict) finish.findings) in omega (arith, reported.ends, below);
-    text = reported.text;
-    due = (reported.is, reported.ends);
-    written = reported.written;
-  }
-  came (Run file seed workers) suite finish old new (inr unwritten, none) has quiet = absurd (quiet unwritten.cause)
-  came (Replay file wanted list) suite finish old new (Replayed shown rec, says, tells) has quiet =
-      of_record file wanted list shown rec finish old new says.2 tells quiet
-  came (Replay file wanted list) suite finish old new (Refused refusal.UnknownItem, says, tells) has quiet = absurd (says has.0 has.1)
-  came (Replay file wanted list) suite finish old new (Refused refusal.Usage, says, tells) has quiet = absurd says
-  came (Replay file wanted list) suite finish old new (Refused (refusal.Suite at which), says, tells) has quiet = absurd says
-  came (Replay file wanted list) suite finish old new (Refused refusal.Read, says, tells) has quiet = absurd says
-  came (Replay file wanted list) suite finish old new (Refused refusal.Database, says, tells) has quiet = absurd says
-  came (Replay file wanted list) suite finish old new (Refused refusal.Clash, says, tells) has quiet = absurd says
-  came (Replay file wanted list) suite finish old new (Refused refusal.TooLarge, says, tells) has quiet = absurd says
+  of_replay : (call : Call) (suite : SuiteTree) (file wanted : List ℕ) (list : List Choice) (item : ItemTree) → IsItem suite wanted item → (message : Message) →
+      Says name step checks suite wanted list message → Tells message call.finish call.before.sink call.after.sink → IsQuiet call → IsDone (Replay file wanted list) call
+  of_replay call suite file wanted list item has (Replayed shown rec) says tells quiet = of_record call file wanted list shown rec says.2 tells quiet
+  of_replay call suite file wanted list item has (Listed entries) says tells quiet = absurd says
+  of_replay call suite file wanted list item has (Refused refusal.UnknownItem) says tells quiet = absurd (says item has)
+  of_replay call suite file wanted list item has (Refused refusal.Usage) says tells quiet = absurd says
+  of_replay call suite file wanted list item has (Refused (refusal.Suite at which)) says tells quiet = absurd says
+  of_replay call suite file wanted list item has (Refused refusal.Read) says tells quiet = absurd says
+  of_replay call suite file wanted list item has (Refused refusal.Database) says tells quiet = absurd says
+  of_replay call suite file wanted list item has (Refused refusal.Clash) says tells quiet = absurd says
+  of_replay call suite file wanted list item has (Refused refusal.TooLarge) says tells quiet = absurd says
+
+  -- entries that were told were listed whole
+  of_entries : (call : Call) (entries : List Entry) → Tells (Listed entries) call.finish call.before.sink call.after.sink → IsQuiet call → IsDone Stored call
+  of_entries call entries tells quiet = of_told tells.told
+    where
+      of_told : TellsAll (Listed entries) tells.text call.finish call.before.sink call.after.sink ⊎ TellsPart tells.text call.finish call.before.sink call.after.sink →
+          IsDone Stored call
+      of_told (inl all) = record {
+        below = omega (arith, all.status);
+        text = tells.text;
+        due = (entries, tells.is_text, all.status);
+        written = all.written;
+      }
+      of_told (inr part) = absurd (quiet.sink part.cause)
+
+  of_listing : (call : Call) (message : Message) → Lists call.before.disk call.after.disk message →
+      Tells message call.finish call.before.sink call.after.sink → IsQuiet call → IsDone Stored call
+  of_listing call (Listed entries) lists tells quiet = of_entries call entries tells quiet
+  of_listing call (Replayed shown rec) lists tells quiet = absurd lists
+  of_listing call (Refused refusal.UnknownItem) lists tells quiet = absurd lists
+  of_listing call (Refused refusal.Usage) lists tells quiet = absurd lists
+  of_listing call (Refused (refusal.Suite at which)) lists tells quiet = absurd lists
+  of_listing call (Refused refusal.Read) lists tells quiet = absurd lists
+  of_listing call (Refused refusal.Database) lists tells quiet = absurd (quiet.disk lists.1)
+  of_listing call (Refused refusal.Clash) lists tells quiet = absurd lists
+  of_listing call (Refused refusal.TooLarge) lists tells quiet = absurd lists
+
+  of_made : (call : Call) (seed count seed' count' : ℕ) → Sums name step checks seed count call.finish call.before.sink call.after.sink → IsQuiet call →
+      IsDone (Make seed' count') call
+  of_made call seed count seed' count' sums quiet = of_told sums.told
+    where
+      of_told : ((call.finish.status ≡ turns.status_of call.finish.findings) × Appends call.before.sink.bytes (summary call.finish.findings) call.after.sink.bytes
+          × (call.after.sink.faults ≡ call.before.sink.faults))
+          ⊎ ((call.finish.status ≡ 5) × AppendsPart call.before.sink.bytes (summary call.finish.findings) call.after.sink.bytes
+          × Rose call.before.sink.faults call.after.sink.faults) → IsDone (Make seed' count') call
+      of_told (inl (status, written, same)) = record {
+        below = let below = below_passed (turns.all_passed call.finish.findings) in omega (arith, status, below);
+        text = summary call.finish.findings;
+        due = (refl, status);
+        written = written;
+      }
+      of_told (inr (status, written, cause)) = absurd (quiet.sink cause)
 
   module _ (one_suite : (bytes : List ℕ) (suite other : SuiteTree) → Reads bytes suite → Reads bytes other → suite ≡ other)
       (not_both : (bytes : List ℕ) (suite : SuiteTree) (fault : SuiteFault) → Reads bytes suite → HasFault bytes fault → ⊥) (decided : SuitesAreDecided) where
-    -- what the call did, with the suite of the file
-    pub does_one : (call : Call) (asked : Asked) → Answers name step checks call → Asks call.words asked →
-        (runnable : IsRunnable (map name checks) call.before.files asked) → (call.before.files.steady ≡ true) ⊎ (Rose call.before.files.faults call.after.files.faults → ⊥) →
-        (one : Asked) × Asks call.words one × AreAlike one asked × Does name step checks one runnable.suite call.finish call.before.sink call.after.sink
-    does_one call asked (inl (nothing, tells)) asks runnable quiet = absurd (nothing asked asks)
-    does_one call asked (inr (one, words, inl (suite, taken, does))) asks runnable quiet =
-        let alike = asks_alike call.words one asked words asks in
-        let same = is_suite one_suite (map name checks) call.before.files call.after.files (suite_of one) suite runnable.suite runnable.content runnable.bytes taken runnable.told
-        (rw alike.suites runnable.there) runnable.reads in
-        (one, words, alike, subst (λ (s : SuiteTree). Does name step checks one s call.finish call.before.sink call.after.sink) same does)
-    does_one call asked (inr (one, words, inr (said, turned, tells))) asks runnable quiet =
-        let alike = asks_alike call.words one asked words asks in
-        let can = runnable_alike (map name checks) call.before.files one asked alike runnable in
-        absurd (is_taken one_suite not_both decided (map name checks) call.before.files call.after.files one said turned can quiet)
+    done_one : (call : Call) (one asked : Asked) → Alike one asked → Ends name step checks one call.before call.after call.finish →
+        IsRunnable (map name checks) call.before.files asked → IsQuiet call → IsDone asked call
+    done_one call (Run file seed workers) (Run file' seed' workers') alike ends runnable quiet =
+        let has = suite_at (map name checks) call.before.files file file' _ (λ suite. Unit {0}) alike.0 (λ suite holds. holds) runnable in
+        let does = on_suite one_suite not_both decided call file _ _ ends has quiet.files in
+        of_run call seed has.suite.items file' seed' workers' does.0 quiet
+    done_one call (Replay file wanted list) (Replay file' wanted' list') alike ends runnable quiet =
+        let has = suite_at (map name checks) call.before.files file file' _ (λ suite. (item : ItemTree) × IsItem suite wanted item) alike.0
+        (λ suite holds. (holds.0, (holds.1.0, holds.1.1 ∙ sym alike.1))) runnable in
+        let does = on_suite one_suite not_both decided call file _ _ ends has quiet.files in
+        let replayed = of_replay call has.suite file' wanted list has.has.0 has.has.1 does.0 does.1 does.2 quiet in
+        let here : IsDone (Replay file' wanted list') call =
+        record { below = replayed.below; text = replayed.text; due = replayed.due; written = replayed.written } in
+        subst (λ (w : List ℕ). IsDone (Replay file' w list') call) alike.1 here
+    done_one call Stored Stored alike (message, lists, tells) runnable quiet = of_listing call message lists tells quiet
+    done_one call (Make seed count) (Make seed' count') alike ends runnable quiet = of_made call seed count seed' count' ends quiet
+    done_one call one asked alike ends runnable quiet = absurd alike
 
     pub done : (call : Call) (asked : Asked) → Answers name step checks call → Asks call.words asked →
         IsRunnable (map name checks) call.before.files asked → IsQuiet call → IsDone asked call
-    done call asked answers asks runnable quiet =
-        let found = does_one call asked answers asks runnable quiet.files in
-        let whole = came found.0 runnable.suite call.finish call.before.sink call.after.sink found.3 (found.2.wanted runnable.suite runnable.has) quiet.sink in
-        record { below = whole.below; text = whole.text; due = found.2.due call.finish whole.text whole.due; written = whole.written }
+    done call asked (inl (nothing, tells)) asks runnable quiet = absurd (nothing asked asks)
+    done call asked (inr (one, words, ends)) asks runnable quiet = done_one call one asked (asks_alike call.words one asked words asks) ends runnable quiet

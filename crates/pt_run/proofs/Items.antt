@@ -1,8 +1,8 @@
--- Items of a suite, what is said of their checks, and their turns.
-use Rattle.std.proofs.Common.{◌≡◌, ◌⊎◌, inl, inr, ℕ, zero, suc, ◌+◌, ◌<◌, Bool, true, false, List, [], ◌∷◌, length, take, map, get_or, Option, Some, refl, sym, ◌∙◌, ap, subst, arith}
+-- Items of a suite, what is said of their checks, and what is found out of them.
+use Rattle.std.proofs.Common.{◌≡◌, inl, inr, ℕ, zero, suc, ◌<◌, Bool, true, false, List, [], ◌∷◌, ◌++◌, length, take, map, get_or, Option, Some, refl, sym, ◌∙◌, ap, subst, arith}
 use Rattle.std.specs.Prelude.{◌≢◌, ◌==◌, Contains, slice_get}
 use Rattle.std.specs.Cmp.Lexicographic.{pointwise}
-use Rattle.std.specs.List.{AllByRecursion, AllPairs, IsDistinct}
+use Rattle.std.specs.List.{AllByRecursion, IsDistinct}
 use Rattle.std.proofs.lemmas.Bool.Decides.{Decides-eqb}
 use Rattle.std.proofs.lemmas.Slice.Eq.{slice_eq-Decides}
 use Rattle.pt_choice.specs.declared.choice.Choice.{Choice}
@@ -13,15 +13,18 @@ use Rattle.pt_ast.specs.Plain.{plain_item}
 use Rattle.pt_ast.specs.Trees.{BodyTree, Check_of, Property_of, Machine_of, ItemTree}
 use Rattle.pt_case.specs.Step.{Answer}
 use Rattle.pt_found.specs.declared.finding.Finding.{Finding}
-use Rattle.pt_io.specs.Sink.{Written}
 use Rattle.pt_plan.specs.Says.{plan_says}
 use Rattle.pt_prop.specs.Property.{property_plan}
 use Rattle.pt_machine.specs.Machine.{machine_plan}
-use Rattle.pt_item.specs.Item.{OfBody, OfItem}
-use Rattle.pt_turns.specs.Blocks.{IsLastCut, IsTailCut}
-use Rattle.pt_turns.specs.Ended.{Finishes, Reported, Unwritten}
-use Rattle.pt_turns.specs.Turn.{Turn}
-use Rattle.pt_turns.specs.Turns.{AreTurns, FirstTurns}
+use Rattle.pt_item.specs.Item.{OfBody}
+use Rattle.pt_disk.specs.Moments.{Told}
+use Rattle.pt_edits.specs.Pairs.{PairEdit}
+use Rattle.pt_edits.specs.Readings.{lists_of}
+use Rattle.pt_turns.specs.Examined.{Examined}
+use Rattle.pt_turns.specs.Finishes.{Finishes, IsCut, IsHalted}
+use Rattle.pt_turns.specs.Scene.{Scene}
+use Rattle.pt_turns.specs.Turns.{AreTurnsAfter, FirstTurns}
+use Rattle.pt_turns.specs.declared.reporting.Reported.{Reported}
 use Rattle.pt_run.specs.Suite.{HaveOwnNames}
 
 -- names that are found equal are so, and the other way round
@@ -159,28 +162,60 @@ module _ {C : Type 0} (name : C → List ℕ) (step : C → List Choice → Answ
   of_both distinct word settings (Property_of stmts) P Q X one other follows = follows (plan_says (property_plan stmts)) one other
   of_both distinct word settings (Machine_of machine) P Q X one other follows = follows (plan_says (machine_plan machine settings.steps)) one other
 
+  -- the item is one of these, and this was found out of it, over some list of stored lists
+  pub record IsFoundIn (seed : ℕ) (items : List ItemTree) (finding : Finding) : Type 0 where
+    pub item : ItemTree
+    pub has : Contains items item
+    pub stored : List (List Choice)
+    pub examined : Examined name step checks seed stored item finding
+
+  found_later : (seed : ℕ) (first : ItemTree) (items : List ItemTree) (finding : Finding) → IsFoundIn seed items finding → IsFoundIn seed (first ∷ items) finding
+  found_later seed first items finding later = record {
+    item = later.item;
+    has = (suc later.has.0, omega (arith, later.has.1), later.has.2);
+    stored = later.stored;
+    examined = later.examined;
+  }
+
   -- a finding of some turns is that of one of the items
-  pub turn_of : (seed : ℕ) (items : List ItemTree) (findings : List Finding) (finding : Finding) → AreTurns name step checks seed items findings →
-      Contains findings finding → (item : ItemTree) × Contains items item × Turn name step checks seed [] item finding
-  turn_of seed items [] finding turns (k, within, is) = absurd (omega (arith, within))
-  turn_of seed [] (first ∷ findings) finding turns has = absurd turns
-  turn_of seed (item ∷ items) (first ∷ findings) finding turns (zero, within, is) =
-      (item, (0, omega arith, refl), subst (λ f. Turn name step checks seed [] item f) is turns.0)
-  turn_of seed (item ∷ items) (first ∷ findings) finding turns (suc k, within, is) =
-      let later = turn_of seed items findings finding turns.1 (k, omega (arith, within), is) in
-      let place = later.1 in
-      (later.0, (suc place.0, omega (arith, place.1), place.2), later.2)
+  turn_of : (seed : ℕ) (told : Option Told) (done : List PairEdit) (items : List ItemTree) (findings : List Finding) (all : List PairEdit) (finding : Finding) →
+      AreTurnsAfter name step checks seed told done items findings all → Contains findings finding → IsFoundIn seed items finding
+  turn_of seed told done items [] all finding turns (k, within, is) = absurd (omega (arith, within))
+  turn_of seed told done [] (first ∷ findings) all finding turns has = absurd turns
+  turn_of seed told done (item ∷ items) (first ∷ findings) all finding turns (zero, within, is) = record {
+    item = item;
+    has = (0, omega arith, refl);
+    stored = lists_of turns.1.readings;
+    examined = subst (λ (f : Finding). Examined name step checks seed (lists_of turns.1.readings) item f) is turns.1.examined;
+  }
+  turn_of seed told done (item ∷ items) (first ∷ findings) all finding turns (suc k, within, is) =
+      found_later seed item items finding (turn_of seed told (done ++ turns.0) items findings all finding turns.2 (k, omega (arith, within), is))
+
+  first_turn_of : (seed : ℕ) (told : Option Told) (items : List ItemTree) (findings : List Finding) (all : List PairEdit) (finding : Finding) →
+      FirstTurns name step checks seed told items findings all → Contains findings finding → IsFoundIn seed items finding
+  first_turn_of seed told items findings all finding turns has =
+      let found = turn_of seed told [] (take (length findings) items) findings all finding turns has in
+      record { item = found.item; has = of_first (length findings) items found.item found.has; stored = found.stored; examined = found.examined }
+
+  halted_turn_of : (seed : ℕ) (items : List ItemTree) (findings : List Finding) (finding : Finding) (old new : Option Told) →
+      IsHalted name step checks seed items findings old new → Contains findings finding → IsFoundIn seed items finding
+  halted_turn_of seed items findings finding old new (inl (none, failed)) has =
+      let here : Contains [] finding = subst (λ (fs : List Finding). Contains fs finding) none has in
+      absurd (omega (arith, here.1))
+  halted_turn_of seed items findings finding old new (inr partly) has = first_turn_of seed old items findings partly.edits finding partly.turns has
 
   -- so is one of a run, however it finished
-  pub finding_of : (seed : ℕ) (items : List ItemTree) (status : ℕ) (findings : List Finding) (finding : Finding) (old new : Written) →
-      Finishes name step checks seed items status findings old new → Contains findings finding →
-      (item : ItemTree) × Contains items item × Turn name step checks seed [] item finding
-  finding_of seed items status findings finding old new (inl reported) has = turn_of seed items findings finding reported.turns has
-  finding_of seed items status findings finding old new (inr unwritten) has = of_cut unwritten.cut
+  pub finding_of : (seed : ℕ) (items : List ItemTree) (reported : Reported) (finding : Finding) (old new : Scene) →
+      Finishes name step checks seed items reported old new → Contains reported.findings finding → IsFoundIn seed items finding
+  finding_of seed items reported finding old new (inl whole) has = turn_of seed old.disk.told [] items reported.findings whole.edits finding whole.turns has
+  finding_of seed items reported finding old new (inr (inl unstored)) has =
+      halted_turn_of seed items reported.findings finding old.disk.told new.disk.told unstored.halted has
+  finding_of seed items reported finding old new (inr (inr (inl clashed))) has =
+      first_turn_of seed old.disk.told items reported.findings clashed.clashing.edits finding clashed.clashing.turns has
+  finding_of seed items reported finding old new (inr (inr (inr unwritten))) has = of_cut unwritten.cut
     where
-      of_cut : (FirstTurns name step checks seed items findings × IsLastCut findings old.bytes new.bytes)
-          ⊎ (AreTurns name step checks seed items findings × IsTailCut findings old.bytes new.bytes) → (item : ItemTree) × Contains items item × Turn name step checks seed [] item finding
-      of_cut (inl (turns, cut)) =
-          let found = turn_of seed (take (length findings) items) findings finding turns has in
-          (found.0, of_first (length findings) items found.0 found.1, found.2)
-      of_cut (inr (turns, cut)) = turn_of seed items findings finding turns has
+      of_cut : IsCut name step checks seed items reported.findings old new → IsFoundIn seed items finding
+      of_cut (inl (edits, turns, made, cut)) = first_turn_of seed old.disk.told items reported.findings edits finding turns has
+      of_cut (inr (inl (edits, turns, made, cut))) = turn_of seed old.disk.told [] items reported.findings edits finding turns has
+      of_cut (inr (inr (inl (halted, cause, cut)))) = halted_turn_of seed items reported.findings finding old.disk.told new.disk.told halted has
+      of_cut (inr (inr (inr (two, clashing, cut)))) = first_turn_of seed old.disk.told items reported.findings clashing.edits finding clashing.turns has

@@ -1,6 +1,10 @@
+pub mod Asking
 pub mod Completeness
+pub mod Crashes
+pub mod Entries
 pub mod Items
 pub mod Messages
+pub mod Performing
 pub mod Replaying
 pub mod Statuses
 pub mod Suites

@@ -1,5 +1,5 @@
 -- What follows of files that hold a suite.
-use Rattle.std.proofs.Common.{◌≡◌, ℕ, true, false, List, [], ◌∷◌, ◌++◌, Option, Some, None, Result, Ok, Err, IfOk, OnErr, IsOk, refl, sym, subst, append-nil}
+use Rattle.std.proofs.Common.{◌≡◌, ℕ, true, false, List, Option, Some, None, Result, Ok, Err, IfOk, OnErr, OnOk, IsOk, refl, subst}
 use Rattle.std.specs.Option.{IfSome, IsSomeAnd}
 use Rattle.pt_io.specs.Files.{Shown, HasBytes, HasNone}
 
@@ -12,6 +12,10 @@ IfOk-follows (Err error) P Q holds follows = tt
 pub OnErr-always : {T E : Type 0} (result : Result T E) (P : Type 0) → P → OnErr result P
 OnErr-always (Ok value) P holds = tt
 OnErr-always (Err error) P holds = holds
+
+pub OnOk-always : {T E : Type 0} (result : Result T E) (P : Type 0) → P → OnOk result P
+OnOk-always (Ok value) P holds = holds
+OnOk-always (Err error) P holds = tt
 
 pub OnErr-never : {T E : Type 0} (result : Result T E) (P : Type 0) → IsOk result → OnErr result P
 OnErr-never (Ok value) P ok = tt

@@ -1,56 +1,114 @@
 -- The statuses that a call ends with.
-use Rattle.std.proofs.Common.{◌≡◌, ◌⊎◌, inl, inr, ℕ, Bool, true, false, List, refl, sym, subst, lit<, if◌then◌else◌}
-use Rattle.std.specs.List.{list_all}
+use Rattle.std.proofs.Common.{◌≡◌, ◌⊎◌, inl, inr, ℕ, Bool, true, false, List, refl, sym, subst, lit<, arith, if◌then◌else◌}
+use Rattle.std.specs.Prelude.{◌↔◌, Option, Some, None, IsSome}
+use Rattle.pt_choice.specs.Faults.{Rose}
 use Rattle.pt_choice.specs.declared.choice.Choice.{Choice}
-use Rattle.pt_ast.specs.Trees.{SuiteTree}
+use Rattle.pt_ast.specs.Trees.{ItemTree, SuiteTree}
 use Rattle.pt_case.specs.Ending.{is_failure}
 use Rattle.pt_case.specs.Step.{Answer}
+use Rattle.pt_edits.specs.declared.stop.TwoValues.{TwoValues}
 use Rattle.pt_io.specs.Files.{Shown}
-use Rattle.pt_io.specs.Sink.{Written}
-use Rattle.pt_report.specs.Sorts.{has_passed}
+use Rattle.pt_io.specs.Sink.{Written, Appends, AppendsPart}
+use Rattle.pt_report.specs.Report.{summary}
 use Rattle.pt_report.specs.declared.refusal.Refusal.{Refusal}
 use Rattle.pt_report.specs.declared.refusal.Refusal.TheVariants as refusal
-use Rattle.pt_turns.specs.Ended.{Finishes, Reported, Unwritten}
+use Rattle.pt_turns.specs.Finishes as turns
+use Rattle.pt_turns.specs.Scene.{DiskShown, Scene}
 use Rattle.pt_run.specs.declared.finish.Finish.{Finish}
 use Rattle.pt_run.specs.declared.message.Message.{Message}
-use Rattle.pt_run.specs.declared.message.Message.TheVariants.{Refused, Replayed}
-use Rattle.pt_run.specs.Call.{Call, Answers}
-use Rattle.pt_run.specs.Ends.{Does, Ends, Says}
+use Rattle.pt_run.specs.declared.message.Message.TheVariants.{Refused, Replayed, Listed}
+use Rattle.pt_run.specs.Ends.{Ends, Lists, OnSuite, Says, reported_of}
 use Rattle.pt_run.specs.Message.{IsStatus, Tells, TellsAll, TellsPart, refusal_status, status_of}
+use Rattle.pt_run.specs.Outside.{Outside}
 use Rattle.pt_run.specs.Suite.{IsTurnedDown}
-use Rattle.pt_run.specs.Words.{Asked, Run, Replay}
+use Rattle.pt_run.specs.Words.{Asked, Run, Replay, Stored, Make}
 
-of_passed : (passed : Bool) → IsStatus (if passed then 0 else 1)
-of_passed true = (0, lit< tt, refl)
-of_passed false = (1, lit< tt, refl)
+-- one of the statuses, but that of a clash
+abbrev IsPlain : ℕ → Type 0
+IsPlain status = IsStatus status × (status ≡ 8 → ⊥)
 
-of_failed : (failed : Bool) → IsStatus (if failed then 1 else 0)
-of_failed true = (1, lit< tt, refl)
-of_failed false = (0, lit< tt, refl)
+-- the status of a clash with its two values, or a plain one with none
+abbrev pub EndsAs : Finish → Type 0
+EndsAs finish =
+    ((finish.clash ≡ None) × IsPlain finish.status) ⊎ ((two : TwoValues) × (finish.clash ≡ Some two) × (finish.status ≡ 8))
+
+is_0 : IsPlain 0
+is_0 = ((0, lit< tt, refl), λ is. absurd (omega (arith, is)))
+
+is_1 : IsPlain 1
+is_1 = ((1, lit< tt, refl), λ is. absurd (omega (arith, is)))
+
+is_2 : IsPlain 2
+is_2 = ((2, lit< tt, refl), λ is. absurd (omega (arith, is)))
+
+is_3 : IsPlain 3
+is_3 = ((3, lit< tt, refl), λ is. absurd (omega (arith, is)))
+
+is_4 : IsPlain 4
+is_4 = ((4, lit< tt, refl), λ is. absurd (omega (arith, is)))
+
+is_5 : IsPlain 5
+is_5 = ((5, lit< tt, refl), λ is. absurd (omega (arith, is)))
+
+is_6 : IsPlain 6
+is_6 = ((6, lit< tt, refl), λ is. absurd (omega (arith, is)))
+
+is_9 : IsPlain 9
+is_9 = ((8, lit< tt, refl), λ is. absurd (omega (arith, is)))
+
+is_10 : IsPlain 10
+is_10 = ((9, lit< tt, refl), λ is. absurd (omega (arith, is)))
+
+of_passed : (passed : Bool) → IsPlain (if passed then 0 else 1)
+of_passed true = is_0
+of_passed false = is_1
+
+of_failed : (failed : Bool) → IsPlain (if failed then 1 else 0)
+of_failed true = is_1
+of_failed false = is_0
+
+-- a status that is a plain one is plain
+plain : (status other : ℕ) → status ≡ other → IsPlain other → IsPlain status
+plain status other is here = subst (λ (s : ℕ). IsPlain s) (sym is) here
 
 -- why no suite was taken has a status
-turned_down : (known : List (List ℕ)) (old new : Shown) (file : List ℕ) (said : Refusal) → IsTurnedDown known old new file said → IsStatus (refusal_status said)
+turned_down : (known : List (List ℕ)) (old new : Shown) (file : List ℕ) (said : Refusal) → IsTurnedDown known old new file said → IsPlain (refusal_status said)
 turned_down known old new file refusal.Usage is = absurd is
-turned_down known old new file (refusal.Suite at which) is = (3, lit< tt, refl)
-turned_down known old new file refusal.Read is = (4, lit< tt, refl)
+turned_down known old new file (refusal.Suite at which) is = is_3
+turned_down known old new file refusal.Read is = is_4
 turned_down known old new file refusal.Database is = absurd is
 turned_down known old new file refusal.Clash is = absurd is
-turned_down known old new file refusal.TooLarge is = (6, lit< tt, refl)
+turned_down known old new file refusal.TooLarge is = is_9
 turned_down known old new file refusal.UnknownItem is = absurd is
 
 -- what is told has the status of its message, or that of a failed output
-pub told_status : (message : Message) (finish : Finish) (old new : Written) → IsStatus (status_of message) → Tells message finish old new → IsStatus finish.status
-told_status message finish old new status tells = of_told tells.told
+told_as : (message : Message) (finish : Finish) (old new : Written) → IsPlain (status_of message) → Tells message finish old new → EndsAs finish
+told_as message finish old new status tells = inl (tells.clash, of_told tells.told)
   where
-    of_told : TellsAll message tells.text finish old new ⊎ TellsPart tells.text finish old new → IsStatus finish.status
-    of_told (inl all) = subst IsStatus (sym all.status) status
-    of_told (inr part) = subst IsStatus (sym part.status) (5, lit< tt, refl)
+    of_told : TellsAll message tells.text finish old new ⊎ TellsPart tells.text finish old new → IsPlain finish.status
+    of_told (inl all) = plain finish.status (status_of message) all.status status
+    of_told (inr part) = plain finish.status 5 part.status is_5
+
+pub usage_as : (finish : Finish) (old new : Written) → Tells (Refused refusal.Usage) finish old new → EndsAs finish
+usage_as finish old new tells = told_as (Refused refusal.Usage) finish old new is_2 tells
+
+listed_status : (old new : DiskShown) (message : Message) → Lists old new message → IsPlain (status_of message)
+listed_status old new (Listed entries) lists = is_0
+listed_status old new (Replayed shown rec) lists = absurd lists
+listed_status old new (Refused refusal.Usage) lists = absurd lists
+listed_status old new (Refused (refusal.Suite at which)) lists = absurd lists
+listed_status old new (Refused refusal.Read) lists = absurd lists
+listed_status old new (Refused refusal.Database) lists = is_6
+listed_status old new (Refused refusal.Clash) lists = absurd lists
+listed_status old new (Refused refusal.TooLarge) lists = absurd lists
+listed_status old new (Refused refusal.UnknownItem) lists = absurd lists
 
 module _ {C : Type 0} (name : C → List ℕ) (step : C → List Choice → Answer → Type 0) (checks : List C) where
   said_status : (suite : SuiteTree) (wanted : List ℕ) (list : List Choice) (message : Message) → Says name step checks suite wanted list message →
-      IsStatus (status_of message)
+      IsPlain (status_of message)
   said_status suite wanted list (Replayed shown rec) says = of_failed (is_failure rec.ending)
-  said_status suite wanted list (Refused refusal.UnknownItem) says = (7, lit< tt, refl)
+  said_status suite wanted list (Listed entries) says = absurd says
+  said_status suite wanted list (Refused refusal.UnknownItem) says = is_10
   said_status suite wanted list (Refused refusal.Usage) says = absurd says
   said_status suite wanted list (Refused (refusal.Suite at which)) says = absurd says
   said_status suite wanted list (Refused refusal.Read) says = absurd says
@@ -58,19 +116,45 @@ module _ {C : Type 0} (name : C → List ℕ) (step : C → List Choice → Answ
   said_status suite wanted list (Refused refusal.Clash) says = absurd says
   said_status suite wanted list (Refused refusal.TooLarge) says = absurd says
 
-  done_status : (asked : Asked) (suite : SuiteTree) (finish : Finish) (old new : Written) → Does name step checks asked suite finish old new → IsStatus finish.status
-  done_status (Run file seed workers) suite finish old new (inl reported, none) =
-      subst IsStatus (sym reported.ends) (of_passed (list_all (λ finding. has_passed finding.verdict) finish.findings))
-  done_status (Run file seed workers) suite finish old new (inr unwritten, none) = subst IsStatus (sym unwritten.ends) (5, lit< tt, refl)
-  done_status (Replay file wanted list) suite finish old new (message, says, tells) =
-      told_status message finish old new (said_status suite wanted list message says) tells
+  run_as : (seed : ℕ) (items : List ItemTree) (finish : Finish) (old new : Scene) →
+      turns.Finishes name step checks seed items (reported_of finish) old new → EndsAs finish
+  run_as seed items finish old new (inl whole) =
+      inl (whole.no_clash, plain finish.status (turns.status_of finish.findings) whole.ends (of_passed (turns.all_passed finish.findings)))
+  run_as seed items finish old new (inr (inl unstored)) = inl (unstored.no_clash, plain finish.status 6 unstored.ends is_6)
+  run_as seed items finish old new (inr (inr (inl clashed))) = inr (clashed.two, clashed.shown, clashed.ends)
+  run_as seed items finish old new (inr (inr (inr unwritten))) = inl (unwritten.no_clash, plain finish.status 5 unwritten.ends is_5)
 
-  pub ends_status : (asked : Asked) (files read : Shown) (finish : Finish) (old new : Written) → Ends name step checks asked files read finish old new → IsStatus finish.status
-  ends_status asked files read finish old new (inl (suite, taken, does)) = done_status asked suite finish old new does
-  ends_status asked files read finish old new (inr (said, turned, tells)) =
-      told_status (Refused said) finish old new (turned_down _ files read _ said turned) tells
+  on_suite_as : (file : List ℕ) (Does : SuiteTree → Type 0) (before after : Outside) (finish : Finish) →
+      ((suite : SuiteTree) → Does suite → EndsAs finish) → OnSuite name step checks file Does before after finish → EndsAs finish
+  on_suite_as file Does before after finish follows (inl (suite, taken, does)) = follows suite does
+  on_suite_as file Does before after finish follows (inr (said, turned, tells, same)) =
+      told_as (Refused said) finish before.sink after.sink (turned_down _ before.files after.files file said turned) tells
 
-  pub answered_status : (call : Call) → Answers name step checks call → IsStatus call.finish.status
-  answered_status call (inl (nothing, tells)) = told_status (Refused refusal.Usage) call.finish call.before.sink call.after.sink (2, lit< tt, refl) tells
-  answered_status call (inr (asked, asks, ends)) =
-      ends_status asked call.before.files call.after.files call.finish call.before.sink call.after.sink ends
+  pub ends_as : (asked : Asked) (before after : Outside) (finish : Finish) → Ends name step checks asked before after finish → EndsAs finish
+  ends_as (Run file seed workers) before after finish ends =
+      on_suite_as file _ before after finish (λ suite does. run_as seed suite.items finish _ _ does.0) ends
+  ends_as (Replay file wanted list) before after finish ends =
+      on_suite_as file _ before after finish (λ suite does.
+      told_as does.0 finish before.sink after.sink (said_status suite wanted list does.0 does.1) does.2) ends
+  ends_as Stored before after finish (message, lists, tells) =
+      told_as message finish before.sink after.sink (listed_status before.disk after.disk message lists) tells
+  ends_as (Make seed count) before after finish sums = inl (sums.clash, of_told sums.told)
+    where
+      of_told : ((finish.status ≡ turns.status_of finish.findings) × Appends before.sink.bytes (summary finish.findings) after.sink.bytes × (after.sink.faults ≡ before.sink.faults))
+          ⊎ ((finish.status ≡ 5) × AppendsPart before.sink.bytes (summary finish.findings) after.sink.bytes × Rose before.sink.faults after.sink.faults) → IsPlain finish.status
+      of_told (inl (status, written, quiet)) = plain finish.status (turns.status_of finish.findings) status (of_passed (turns.all_passed finish.findings))
+      of_told (inr (status, written, cause)) = plain finish.status 5 status is_5
+
+-- so its status is one of them
+pub status_from : (finish : Finish) → EndsAs finish → IsStatus finish.status
+status_from finish (inl (none, (is, other))) = is
+status_from finish (inr (two, shown, is)) = subst (λ (s : ℕ). IsStatus s) (sym is) (7, lit< tt, refl)
+
+not_some : {A : Type 0} (value : Option A) → value ≡ None → IsSome value → ⊥
+not_some None is some = absurd (let none : false ≡ true = some in cc)
+not_some (Some it) is some = absurd (let none : Some it ≡ None = is in cc)
+
+-- and it shows two values with that of a clash alone
+pub clash_from : (finish : Finish) → EndsAs finish → IsSome finish.clash ↔ (finish.status ≡ 8)
+clash_from finish (inl (none, (is, other))) = (λ some. absurd (not_some finish.clash none some), λ same. absurd (other same))
+clash_from finish (inr (two, shown, is)) = (λ some. is, λ same. subst (λ (c : Option TwoValues). IsSome c) (sym shown) refl)

@@ -1,5 +1,5 @@
 -- What is said of a file whose text was read.
-use Rattle.std.proofs.Common.{◌≡◌, inl, inr, ℕ, List, Option, Some, None, refl, sym, subst}
+use Rattle.std.proofs.Common.{◌≡◌, inl, inr, ℕ, List, Some, None, refl, sym, subst}
 use Rattle.std.specs.Option.{option_map}
 use Rattle.pt_val.specs.declared.place.Place.{Place}
 use Rattle.pt_ast.specs.Plain.{plain_suite}

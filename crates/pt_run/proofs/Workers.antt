@@ -1,25 +1,28 @@
 -- Two runs of one file differ in their reductions alone.
-use Rattle.std.proofs.Common.{◌≡◌, ◌⊎◌, inl, inr, ℕ, ◌<◌, ◌^◌, List, Some, sym, ◌∙◌, ap, subst, arith, Global}
-use Rattle.std.specs.Prelude.{IsSome, String, map}
-use Rattle.std.specs.Fmt.{decimal}
-use Rattle.std.proofs.lemmas.Fmt.{decimal_is_IsNumeral}
-use Rattle.std.specs.Str.Parse.{digits_value}
+use Rattle.std.proofs.Common.{◌≡◌, ◌⊎◌, inl, inr, ℕ, ◌<◌, List, [], Option, Some, ◌∙◌, subst, arith}
+use Rattle.std.specs.Prelude.{IsSome, map}
 use Rattle.pt_choice.specs.declared.choice.Choice.{Choice}
 use Rattle.pt_ast.specs.Trees.{ItemTree, SuiteTree}
 use Rattle.pt_parse.specs.Suites.{Reads}
 use Rattle.pt_case.specs.Step.{Answer}
+use Rattle.pt_disk.specs.Folder.{reads}
+use Rattle.pt_disk.specs.Moments.{Told, now}
+use Rattle.pt_edits.specs.Pairs.{PairEdit}
 use Rattle.pt_found.specs.declared.finding.Finding.{Finding}
 use Rattle.pt_io.specs.Files.{IsSame}
 use Rattle.pt_io.specs.Reading.{IsWithinLimit}
 use Rattle.pt_report.specs.declared.refusal.Refusal.{Refusal}
 use Rattle.pt_report.specs.declared.refusal.Refusal.TheVariants as refusal
-use Rattle.pt_turns.specs.Agree.{AllAgree}
+use Rattle.pt_stored.specs.Stored.{SameStored}
+use Rattle.pt_turns.specs.Agree.{AgreeWhereOwn}
 use Rattle.pt_turns.specs.Turns.{AreTurns}
 use Rattle.pt_run.specs.declared.message.Message.TheVariants.{Refused}
 use Rattle.pt_run.specs.Call.{Call, Answers}
+use Rattle.pt_run.specs.Ends.{Ends}
 use Rattle.pt_run.specs.Message.{TellsAll, TellsPart, refusal_status}
 use Rattle.pt_run.specs.Suite.{IsTaken}
-use Rattle.pt_run.specs.Words.{Asked, Run, Replay, AsksRun}
+use Rattle.pt_run.specs.Words.{Asked, Run, Replay, Stored, Make, AsksRun}
+use Rattle.pt_run.proofs.Asking.{Alike, asks_alike}
 use Rattle.pt_run.proofs.Completeness.{is_suite}
 use Rattle.pt_run.proofs.Messages.{HasBytes-some}
 use Rattle.pt_run.proofs.Replaying.{some_of}
@@ -34,55 +37,64 @@ not_below refusal.Clash below = absurd (omega (arith, below))
 not_below refusal.TooLarge below = absurd (omega (arith, below))
 not_below refusal.UnknownItem below = absurd (omega (arith, below))
 
--- numbers that are written alike are the same
-same_number : (n m : ℕ) → n < 2 ^ 64 → m < 2 ^ 64 → decimal n ≡ decimal m → n ≡ m
-same_number n m small fits same =
-    let here = (decimal_is_IsNumeral n small).1 in
-    let there = (decimal_is_IsNumeral m fits).1 in
-    sym here ∙ ap (digits_value 10) same ∙ there
-
 module _ {C : Type 0} (name : C → List ℕ) (step : C → List Choice → Answer → Type 0) (checks : List C) where
   -- the suite of a run that came to its end, and the turns of its items
-  record HasRun (call : Call) (file : List ℕ) (seed : ℕ) : Type 0 where
+  record HasRun (call : Call) (file : List ℕ) (seed : ℕ) (told : Told) : Type 0 where
     pub suite : SuiteTree
     pub taken : IsTaken (map name checks) call.before.files call.after.files file suite
-    pub turns : AreTurns name step checks seed suite.items call.finish.findings
+    pub edits : List PairEdit
+    pub turns : AreTurns name step checks seed (Some told) suite.items call.finish.findings edits
 
-  has_run : (call : Call) (file : List ℕ) (seed workers : ℕ) → Answers name step checks call → AsksRun call.words file seed workers → call.finish.status < 2 →
-      HasRun call file seed
-  has_run call file seed workers (inl (nothing, tells)) asks below = absurd (nothing (Run file seed workers) asks)
-  has_run call file seed workers (inr (Run other seed' workers', words, inl (suite, taken, (inl reported, none)))) asks below =
-      let same = sym words.spelled ∙ asks.spelled in
-      let files : other ≡ file = cc in
-      let written : decimal seed' ≡ decimal seed = cc in
-      let seeds : seed' ≡ seed = same_number seed' seed words.seed_fits asks.seed_fits written in
-      record {
-        suite = suite;
-        taken = subst (λ (f : List ℕ). IsTaken (map name checks) call.before.files call.after.files f suite) files taken;
-        turns = subst (λ (s : ℕ). AreTurns name step checks s suite.items call.finish.findings) seeds reported.turns;
-      }
-  has_run call file seed workers (inr (Run other seed' workers', words, inl (suite, taken, (inr unwritten, none)))) asks below =
+  run_one : (call : Call) (one : Asked) (file : List ℕ) (seed workers : ℕ) (told : Told) → Alike one (Run file seed workers) →
+      Ends name step checks one call.before call.after call.finish → call.finish.status < 2 → call.before.disk.told ≡ Some told → HasRun call file seed told
+  run_one call (Run other seed' workers') file seed workers told alike (inl (suite, taken, ((inl whole), none))) below telling = record {
+    suite = suite;
+    taken = subst (λ (f : List ℕ). IsTaken (map name checks) call.before.files call.after.files f suite) alike.0 taken;
+    edits = whole.edits;
+    turns = subst (λ (s : ℕ). AreTurns name step checks s (Some told) suite.items call.finish.findings whole.edits) alike.1
+        (subst (λ (t : Option Told). AreTurns name step checks seed' t suite.items call.finish.findings whole.edits) telling whole.turns);
+  }
+  run_one call (Run other seed' workers') file seed workers told alike (inl (suite, taken, ((inr (inl unstored)), none))) below telling =
+      absurd (omega (arith, unstored.ends, below))
+  run_one call (Run other seed' workers') file seed workers told alike (inl (suite, taken, ((inr (inr (inl clashed))), none))) below telling =
+      absurd (omega (arith, clashed.ends, below))
+  run_one call (Run other seed' workers') file seed workers told alike (inl (suite, taken, ((inr (inr (inr unwritten))), none))) below telling =
       absurd (omega (arith, unwritten.ends, below))
-  has_run call file seed workers (inr (Replay other item list, words, inl (suite, taken, does))) asks below =
-      absurd (let same = sym words.spelled ∙ asks.spelled in cc)
-  has_run call file seed workers (inr (one, words, inr (said, turned, tells))) asks below = of_told tells.told
+  run_one call (Run other seed' workers') file seed workers told alike (inr (said, turned, tells, rests)) below telling = of_told tells.told
     where
       of_told : TellsAll (Refused said) tells.text call.finish call.before.sink call.after.sink
-          ⊎ TellsPart tells.text call.finish call.before.sink call.after.sink → HasRun call file seed
+          ⊎ TellsPart tells.text call.finish call.before.sink call.after.sink → HasRun call file seed told
       of_told (inl all) = absurd (not_below said (subst (λ (n : ℕ). n < 2) all.status below))
       of_told (inr part) = absurd (omega (arith, part.status, below))
+  run_one call (Replay other wanted list) file seed workers told alike ends below telling = absurd alike
+  run_one call Stored file seed workers told alike ends below telling = absurd alike
+  run_one call (Make seed' count) file seed workers told alike ends below telling = absurd alike
+
+  has_run : (call : Call) (file : List ℕ) (seed workers : ℕ) (told : Told) → Answers name step checks call → AsksRun call.words file seed workers →
+      call.finish.status < 2 → call.before.disk.told ≡ Some told → HasRun call file seed told
+  has_run call file seed workers told (inl (nothing, tells)) asks below telling = absurd (nothing (Run file seed workers) asks)
+  has_run call file seed workers told (inr (one, words, ends)) asks below telling =
+      run_one call one file seed workers told (asks_alike call.words one (Run file seed workers) words asks) ends below telling
 
   pub runs_agree : ((bytes : List ℕ) (suite other : SuiteTree) → Reads bytes suite → Reads bytes other → suite ≡ other) →
-      ((seed : ℕ) (items : List ItemTree) (one other : List Finding) → AreTurns name step checks seed items one → AreTurns name step checks seed items other → AllAgree one other) →
-      (one other : Call) (file : List ℕ) (seed workers more : ℕ) → Answers name step checks one → AsksRun one.words file seed workers → one.finish.status < 2 →
-      Answers name step checks other → AsksRun other.words file seed more → other.finish.status < 2 →
-      IsSome one.before.files.named → IsSame one.before.files other.before.files → AllAgree one.finish.findings other.finish.findings
-  runs_agree one_suite turns_agree one other file seed workers more answers asks below answered asked under told same =
-      let first = has_run one file seed workers answers asks below in
-      let second = has_run other file seed more answered asked under in
-      let content = some_of one.before.files.named told in
+      ((seed : ℕ) (told telling : Told) (items : List ItemTree) (one other : List Finding) (edits more : List PairEdit) →
+      SameStored (reads (now told)) (reads (now telling)) → AreTurns name step checks seed (Some told) items one edits →
+      AreTurns name step checks seed (Some telling) items other more → AgreeWhereOwn [] items one other) →
+      (one other : Call) (file : List ℕ) (seed workers more : ℕ) (told telling : Told) → Answers name step checks one → AsksRun one.words file seed workers →
+      one.finish.status < 2 → Answers name step checks other → AsksRun other.words file seed more → other.finish.status < 2 →
+      IsSome one.before.files.named → IsSame one.before.files other.before.files → one.before.disk.told ≡ Some told → other.before.disk.told ≡ Some telling →
+      SameStored (reads (now told)) (reads (now telling)) →
+      (suite : SuiteTree) × IsTaken (map name checks) one.before.files one.after.files file suite
+      × AgreeWhereOwn [] suite.items one.finish.findings other.finish.findings
+  runs_agree one_suite turns_agree one other file seed workers more told telling answers asks below answered asked under named same here there stored =
+      let first = has_run one file seed workers told answers asks below here in
+      let second = has_run other file seed more telling answered asked under there in
+      let content = some_of one.before.files.named named in
       let bytes = HasBytes-some one.before.files file (λ bytes. IsWithinLimit bytes × Reads bytes first.suite) content.0 first.taken.read content.1 in
       let suites : second.suite ≡ first.suite =
-      is_suite one_suite (map name checks) other.before.files other.after.files file second.suite first.suite content.0 bytes.0 second.taken (same.named ∙ content.1) bytes.1 bytes.2.1 in
-      turns_agree seed first.suite.items one.finish.findings other.finish.findings first.turns
-      (subst (λ (s : SuiteTree). AreTurns name step checks seed s.items other.finish.findings) suites second.turns)
+      is_suite one_suite (map name checks) other.before.files other.after.files file second.suite first.suite content.0 bytes.0 second.taken (same.named ∙ content.1) bytes.1 bytes.2.1 in (
+        first.suite,
+        first.taken,
+        turns_agree seed told telling first.suite.items one.finish.findings other.finish.findings first.edits second.edits stored first.turns
+            (subst (λ (s : SuiteTree). AreTurns name step checks seed (Some telling) s.items other.finish.findings second.edits) suites second.turns),
+      )

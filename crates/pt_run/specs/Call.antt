@@ -1,5 +1,5 @@
 -- A call of the program, and what follows of it.
-use Rattle.std.specs.Prelude.{◌≡◌, ◌⊎◌, ℕ, ◌<◌, true, List, [], ◌∷◌, map, codes, Option, Some, String, string_bytes, if◌then◌else◌}
+use Rattle.std.specs.Prelude.{◌≡◌, ◌⊎◌, ℕ, ◌<◌, true, List, [], ◌∷◌, map, codes, Option, Some, None, String, string_bytes, if◌then◌else◌}
 use Rattle.std.specs.declared.alloc.Global.{Global}
 use Rattle.pt_choice.specs.Faults.{Rose}
 use Rattle.pt_choice.specs.declared.choice.Choice.{Choice}
@@ -7,28 +7,23 @@ use Rattle.pt_wire.specs.Printed.{Printed}
 use Rattle.pt_ast.specs.Suites.{IsTyped}
 use Rattle.pt_ast.specs.Trees.{ItemTree, SuiteTree}
 use Rattle.pt_parse.specs.Suites.{Reads}
+use Rattle.pt_stored.specs.declared.entry.Entry.{Entry}
 use Rattle.pt_case.specs.Ending.{is_failure}
 use Rattle.pt_case.specs.Step.{Answer}
 use Rattle.pt_case.specs.declared.record.Record.{Record}
 use Rattle.pt_io.specs.Files.{Shown}
 use Rattle.pt_io.specs.Reading.{IsWithinLimit}
-use Rattle.pt_io.specs.Sink.{Written, Appends}
-use Rattle.pt_report.specs.Report.{IsReplay, IsReport}
+use Rattle.pt_io.specs.Sink.{Appends}
+use Rattle.pt_report.specs.Listing.{IsListing}
+use Rattle.pt_report.specs.Report.{IsReplay, IsReport, summary}
 use Rattle.pt_report.specs.declared.refusal.Refusal.TheVariants.{Usage}
-use Rattle.pt_turns.specs.Ended as turns
+use Rattle.pt_turns.specs.Finishes as turns
 use Rattle.pt_run.specs.declared.finish.Finish.{Finish}
 use Rattle.pt_run.specs.declared.message.Message.TheVariants.{Refused}
 use Rattle.pt_run.specs.Ends.{Ends, IsItem}
 use Rattle.pt_run.specs.Message.{Tells}
-use Rattle.pt_run.specs.Words.{Asked, Run, Replay, Asks, AskNothing, suite_of}
-
--- what the outside shows at a moment
-pub record Outside : Type 0 where
-  pub files : Shown
-  pub sink : Written
-
-abbrev pub outside : Shown → Written → Outside
-outside files sink = record { files = files; sink = sink }
+use Rattle.pt_run.specs.Outside.{Outside}
+use Rattle.pt_run.specs.Words.{Asked, Run, Replay, Stored, Make, Asks, AskNothing}
 
 -- a call with these words that came to an end, with what the outside showed before and after
 pub record Call : Type 0 where
@@ -45,35 +40,43 @@ abbrev pub Answers : {C : Type 0} → (C → List ℕ) → (C → List Choice �
 Answers name step checks call =
     (AskNothing call.words × Tells (Refused Usage) call.finish call.before.sink call.after.sink)
     ⊎ ((asked : Asked) × Asks call.words asked
-    × Ends name step checks asked call.before.files call.after.files call.finish call.before.sink call.after.sink)
+    × Ends name step checks asked call.before call.after call.finish)
 
--- No call of the sink failed, and none of the files, of which steady ones fail only where they lack the suite.
+-- No call of the sink failed, none of the disk, and none of the files, of which steady ones fail only where they lack the suite; and no
+-- two values clashed.
 pub record IsQuiet (call : Call) : Type 0 where
   pub files : (call.before.files.steady ≡ true) ⊎ (Rose call.before.files.faults call.after.files.faults → ⊥)
+  pub disk : Rose call.before.disk.faults call.after.disk.faults → ⊥
   pub sink : Rose call.before.sink.faults call.after.sink.faults → ⊥
+  pub no_clash : call.finish.clash ≡ None
 
--- the suite has what is asked for: an item of the name, where a replay asks for one
-abbrev pub HasWanted : Asked → SuiteTree → Type 0
-HasWanted (Run file seed workers) suite = Unit {0}
-HasWanted (Replay file wanted list) suite = (item : ItemTree) × IsItem suite wanted item
-
--- What is asked for can be done: there is such a file, and it is the text of a well typed suite that has what is asked for.
-pub record IsRunnable (known : List (List ℕ)) (files : Shown) (asked : Asked) : Type 0 where
+-- There is such a file, and it is the text of a well typed suite of which this is true.
+pub record HasSuite (known : List (List ℕ)) (files : Shown) (file : List ℕ) (Holds : SuiteTree → Type 0) : Type 0 where
   pub content : List ℕ → Option (List ℕ)
   pub told : files.named ≡ Some content
   pub bytes : List ℕ
-  pub there : content (suite_of asked) ≡ Some bytes
+  pub there : content file ≡ Some bytes
   pub small : IsWithinLimit bytes
   pub suite : SuiteTree
   pub reads : Reads bytes suite
   pub typed : IsTyped known suite
-  pub has : HasWanted asked suite
+  pub has : Holds suite
+
+-- What is asked for can be done: there is the suite, where one is asked for, and it has an item of the name, where a replay asks
+-- for one.
+abbrev pub IsRunnable : List (List ℕ) → Shown → Asked → Type 0
+IsRunnable known files (Run file seed workers) = HasSuite known files file (λ suite. Unit {0})
+IsRunnable known files (Replay file wanted list) = HasSuite known files file (λ suite. (item : ItemTree) × IsItem suite wanted item)
+IsRunnable known files Stored = Unit {0}
+IsRunnable known files (Make seed count) = Unit {0}
 
 -- this is the whole text that is due, and the status that goes with it
 abbrev pub IsDue : Asked → Finish → List ℕ → Type 0
 IsDue (Run file seed workers) finish text = IsReport finish.findings text × (finish.status ≡ turns.status_of finish.findings)
 IsDue (Replay file wanted list) finish text =
     (rec : Record) × (finish.replayed ≡ Some rec) × IsReplay wanted rec text × (finish.status ≡ (if is_failure rec.ending then 1 else 0))
+IsDue Stored finish text = (entries : List Entry) × IsListing entries text × (finish.status ≡ 0)
+IsDue (Make seed count) finish text = (text ≡ summary finish.findings) × (finish.status ≡ turns.status_of finish.findings)
 
 -- The status is 0 or 1, and the whole text that is due was written.
 pub record IsDone (asked : Asked) (call : Call) : Type 0 where

@@ -1,16 +1,17 @@
--- What a call of the program has to say but for the blocks of a run, and what it writes then.
-use Rattle.std.specs.Prelude.{◌≡◌, ◌⊎◌, ℕ, Contains, List, [], ◌∷◌, Option, Some, None, if◌then◌else◌}
+-- What a call of the program has to say but for the report on a suite's items, and what it writes then.
+use Rattle.std.specs.Prelude.{◌≡◌, ◌≤◌, ◌⊎◌, ℕ, All, Contains, List, [], ◌∷◌, length, Option, Some, None, if◌then◌else◌, ⊤}
 use Rattle.pt_case.specs.Ending.{is_failure}
 use Rattle.pt_case.specs.declared.record.Record.{Record}
 use Rattle.pt_choice.specs.Faults.{Rose}
 use Rattle.pt_io.specs.Sink.{Written, Appends, AppendsPart}
+use Rattle.pt_report.specs.Listing.{IsListing}
 use Rattle.pt_report.specs.Refusals.{refusal_text}
 use Rattle.pt_report.specs.Report.{IsReplay}
 use Rattle.pt_report.specs.declared.refusal.Refusal.{Refusal}
 use Rattle.pt_report.specs.declared.refusal.Refusal.TheVariants as refusal
 use Rattle.pt_run.specs.declared.finish.Finish.{Finish}
 use Rattle.pt_run.specs.declared.message.Message.{Message}
-use Rattle.pt_run.specs.declared.message.Message.TheVariants.{Refused, Replayed}
+use Rattle.pt_run.specs.declared.message.Message.TheVariants.{Refused, Replayed, Listed}
 
 abbrev pub refusal_status : Refusal → ℕ
 refusal_status refusal.Usage = 2
@@ -21,23 +22,32 @@ refusal_status refusal.Clash = 8
 refusal_status refusal.TooLarge = 9
 refusal_status refusal.UnknownItem = 10
 
+-- the values that are listed have no more bytes than a value may have
+abbrev pub IsTellable : Message → Type 0
+IsTellable (Refused refusal) = ⊤
+IsTellable (Replayed item rec) = ⊤
+IsTellable (Listed entries) = All (λ entry. length entry.bytes ≤ 65536) entries
+
 -- this is the text of the message
 abbrev pub IsText : Message → List ℕ → Type 0
 IsText (Refused refusal) text = text ≡ refusal_text refusal
 IsText (Replayed item rec) text = IsReplay item rec text
+IsText (Listed entries) text = IsListing entries text
 
 -- the record that was replayed, if one was
 abbrev pub replayed_of : Message → Option Record
 replayed_of (Refused refusal) = None
 replayed_of (Replayed item rec) = Some rec
+replayed_of (Listed entries) = None
 
 abbrev pub status_of : Message → ℕ
 status_of (Refused refusal) = refusal_status refusal
 status_of (Replayed item rec) = if is_failure rec.ending then 1 else 0
+status_of (Listed entries) = 0
 
 -- a call ends with one of these statuses, and no other
 abbrev pub IsStatus : ℕ → Type 0
-IsStatus status = Contains (0 ∷ 1 ∷ 2 ∷ 3 ∷ 4 ∷ 5 ∷ 9 ∷ 10 ∷ []) status
+IsStatus status = Contains (0 ∷ 1 ∷ 2 ∷ 3 ∷ 4 ∷ 5 ∷ 6 ∷ 8 ∷ 9 ∷ 10 ∷ []) status
 
 -- the message was written whole, with its status, and no call of the sink failed
 pub record TellsAll (message : Message) (text : List ℕ) (finish : Finish) (old new : Written) : Type 0 where
@@ -56,6 +66,7 @@ pub record TellsPart (text : List ℕ) (finish : Finish) (old new : Written) : T
 -- What is left of a call that has this message.
 pub record Tells (message : Message) (finish : Finish) (old new : Written) : Type 0 where
   pub findings : finish.findings ≡ []
+  pub clash : finish.clash ≡ None
   pub text : List ℕ
   pub is_text : IsText message text
   pub told : TellsAll message text finish old new ⊎ TellsPart text finish old new

@@ -1,6 +1,5 @@
 -- What the file of a suite comes to.
 use Rattle.std.specs.Prelude.{◌≡◌, ◌≢◌, ◌⊎◌, ℕ, true, Option, Some, None, List, AllPairs}
-use Rattle.pt_val.specs.declared.place.Place.{Place}
 use Rattle.pt_ast.specs.Plain.{plain_suite}
 use Rattle.pt_ast.specs.Sound.{IsSound}
 use Rattle.pt_ast.specs.Trees.{SuiteTree}
@@ -14,7 +13,6 @@ use Rattle.pt_io.specs.Files.{Shown, HasBytes, HasNone}
 use Rattle.pt_io.specs.Reading.{IsWithinLimit, IsPastLimit}
 use Rattle.pt_report.specs.declared.refusal.Refusal.{Refusal}
 use Rattle.pt_report.specs.declared.refusal.Refusal.TheVariants as refusal
-use Rattle.pt_report.specs.declared.refusal.Word.{Word}
 use Rattle.pt_report.specs.declared.refusal.Word.TheVariants as word
 use Rattle.pt_run.specs.declared.loading.Loaded.{Loaded}
 use Rattle.pt_run.specs.declared.loading.Loaded.TheVariants.{Taken, Refused}

@@ -3,7 +3,7 @@ ghost use Rattle.std.specs.Fmt.{decimal};
 ghost use Rattle.pt_choice.specs.declared.choice.Choice.{Choice};
 ghost use Rattle.pt_wire.specs.Printed.{Printed};
 ghost use Rattle.pt_run.specs.Command.{asked_by};
-ghost use Rattle.pt_run.specs.Words.{Asks, AskNothing, AsksRun, AsksReplay};
+ghost use Rattle.pt_run.specs.Words.{Asks, AskNothing, AsksRun, AsksReplay, AsksStored, AsksMake};
 
 use pt_choice::{Choices, NoMemory};
 use pt_wire::{MAX_PRINTED, WireFault, read_choices, short_text};
@@ -11,6 +11,9 @@ use std::alloc::Global;
 
 // The most workers of a run.
 const MAX_WORKERS: u64 = 16;
+
+// The most items of a suite that is made.
+const MAX_MADE: u64 = 200;
 
 /// What the words of a command line ask for.
 #[derive(Drop)]
@@ -27,6 +30,13 @@ pub enum Command<'a> {
         item: &'a str,
         list: Choices,
     },
+    /// What the database holds is listed.
+    Stored,
+    /// The suite of so many items that is made of the seed is examined.
+    Make {
+        seed: u64,
+        count: u32,
+    },
 }
 
 /// The command that the words ask for.
@@ -37,7 +47,13 @@ pub fn read_command<'a>(alloc: Global, words: &'a [String]) -> Result<Option<Com
     if let Some(command) = read_run(alloc, words)? {
         return Ok(Some(command));
     }
-    read_replay(alloc, words)
+    if let Some(command) = read_replay(alloc, words)? {
+        return Ok(Some(command));
+    }
+    if let Some(command) = read_make(alloc, words)? {
+        return Ok(Some(command));
+    }
+    Ok(read_stored(words))
 }
 
 fn read_run<'a>(alloc: Global, words: &'a [String]) -> Result<Option<Command<'a>>, NoMemory>
@@ -81,6 +97,39 @@ fn read_replay<'a>(alloc: Global, words: &'a [String]) -> Result<Option<Command<
     let suite = suite.as_str();
     let item = item.as_str();
     Ok(Some(Command::Replay { suite, item, list }))
+}
+
+fn read_make<'a>(alloc: Global, words: &'a [String]) -> Result<Option<Command<'a>>, NoMemory>
+    ensures asks { IfOk result (λ command. IfSome command (λ c. Asks words.now (asked_by c))) }
+    ensures none { IfOk result (λ command. IfNone command ((seed count : ℕ) → AsksMake words.now seed count → ⊥)) }
+{
+    let [make, seed, count] = words else {
+        return Ok(None);
+    };
+    if make.as_str() != "make" {
+        return Ok(None);
+    }
+    let Some(seed) = number(alloc, seed.as_str(), 0, u64::MAX)? else {
+        return Ok(None);
+    };
+    let Some(count) = number(alloc, count.as_str(), 1, MAX_MADE)? else {
+        return Ok(None);
+    };
+    let count = count as u32;
+    Ok(Some(Command::Make { seed, count }))
+}
+
+fn read_stored<'a>(words: &'a [String]) -> Option<Command<'a>>
+    ensures asks { IfSome result (λ c. Asks words.now (asked_by c)) }
+    ensures none { IfNone result (AsksStored words.now → ⊥) }
+{
+    let [stored] = words else {
+        return None;
+    };
+    if stored.as_str() != "stored" {
+        return None;
+    }
+    Some(Command::Stored)
 }
 
 // The list of at most 256 choices that a word spells.

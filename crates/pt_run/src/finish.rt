@@ -1,4 +1,5 @@
 use pt_case::Record;
+use pt_edits::TwoValues;
 use pt_found::Findings;
 
 /// What a call of the program comes to.
@@ -10,4 +11,6 @@ pub struct Finish {
     pub findings: Findings,
     /// The record of a replay that was shown whole.
     pub replayed: Option<Record>,
+    /// With status 8 the two values that clash.
+    pub clash: Option<TwoValues>,
 }

@@ -1,14 +1,21 @@
 //! What follows of every call of `top`. These functions do nothing: their contracts are the laws.
 
-ghost use Rattle.std.specs.Prelude.{◌≡◌, ℕ, ◌<◌, Bool, List, Contains, IsSome, map};
+ghost use Rattle.std.specs.Prelude.{◌≡◌, ◌<◌, ℕ, Bool, List, [], Contains, IsSome, Some, map};
+ghost use Rattle.pt_ast.specs.Trees.{SuiteTree};
 ghost use Rattle.pt_case.specs.declared.record.Record.{Record};
+ghost use Rattle.pt_disk.specs.Files.{Files};
+ghost use Rattle.pt_disk.specs.Folder.{reads};
+ghost use Rattle.pt_disk.specs.Leaves.{IsTidy};
+ghost use Rattle.pt_disk.specs.Moments.{Told, now, IsImageSince};
 ghost use Rattle.pt_found.specs.declared.finding.Finding.{Finding};
 ghost use Rattle.pt_found.specs.declared.finding.Found.{Found};
 ghost use Rattle.pt_found.specs.declared.finding.Verdict.TheVariants.{Failed};
 ghost use Rattle.pt_io.specs.Files.{IsSame};
-ghost use Rattle.pt_turns.specs.Agree.{AllAgree};
 ghost use Rattle.pt_run.specs.Call.{Call, Answers, IsQuiet, IsDone, IsRunnable, AsksAgain, Replays};
-ghost use Rattle.pt_run.specs.Suite.{HaveOwnNames};
+ghost use Rattle.pt_stored.specs.Stored.{SameStored, pending};
+ghost use Rattle.pt_turns.specs.Agree.{AgreeWhereOwn};
+ghost use Rattle.pt_run.specs.Crash.{IsLeftBy};
+ghost use Rattle.pt_run.specs.Suite.{HaveOwnNames, IsTaken};
 ghost use Rattle.pt_run.specs.Words.{Asked, Asks, AsksRun};
 
 use pt_case::Check;
@@ -42,16 +49,29 @@ pub fn a_printed_failure_replays_to_itself<C: Check>(checks: &[C])
     suites_are_decided();
 }
 
-/// The workers change nothing but the reductions: two runs of one file, which is told, with one seed, that both came to their end
-/// with status 0 or 1, found the same of each item, whatever numbers of workers they had.
+/// The workers change nothing but the reductions: two runs of one file, which is told, with one seed, over disks that tell and store the
+/// same, that both came to their end with status 0 or 1, found the same of each item whose name's digest is that of no earlier item's,
+/// whatever numbers of workers they had.
 pub fn workers_change_no_finding<C: Check>(checks: &[C])
     requires { HaveOwnNames C.name checks.now }
-    ensures { (one other : Call) (suite : List ℕ) (seed workers more : ℕ)
-        → Answers C.name C.step checks.now one → AsksRun one.words suite seed workers → one.finish.status < 2
-        → Answers C.name C.step checks.now other → AsksRun other.words suite seed more → other.finish.status < 2
+    ensures { (one other : Call) (file : List ℕ) (seed workers more : ℕ) (told telling : Told)
+        → Answers C.name C.step checks.now one → AsksRun one.words file seed workers → one.finish.status < 2
+        → Answers C.name C.step checks.now other → AsksRun other.words file seed more → other.finish.status < 2
         → IsSome one.before.files.named → IsSame one.before.files other.before.files
-        → AllAgree one.finish.findings other.finish.findings }
+        → one.before.disk.told ≡ Some told → other.before.disk.told ≡ Some telling → SameStored (reads (now told)) (reads (now telling))
+        → (suite : SuiteTree) × IsTaken (map C.name checks.now) one.before.files one.after.files file suite
+        × AgreeWhereOwn [] suite.items one.finish.findings other.finish.findings }
 {
     one_suite();
     pt_turns::workers_change_no_finding(checks);
 }
+
+/// What a crash leaves of a run on a disk that tells and was tidy at the start, whatever the run came to: at each moment since then it is
+/// what a crash might have left at the start, or it stores what was stored then after some first ones of the edits of the turns.
+pub fn what_survives_a_crash<C: Check>(checks: &[C])
+    ensures { (call : Call) (file : List ℕ) (seed workers : ℕ) (old new : Told) (image : Files)
+        → Answers C.name C.step checks.now call → AsksRun call.words file seed workers
+        → call.before.disk.told ≡ Some old → call.after.disk.told ≡ Some new
+        → IsTidy pending (now old) → IsImageSince new old.clock image
+        → IsLeftBy C.name C.step checks.now seed call file old image }
+{}

@@ -6,14 +6,17 @@ mod entry;
 mod finish;
 mod laws;
 mod loading;
+mod making;
 mod message;
 mod running;
 mod showing;
+mod storing;
 mod telling;
 
 pub use entry::top;
 pub use finish::Finish;
 pub use laws::{
-    a_printed_failure_replays_to_itself, what_can_be_done_is_done, workers_change_no_finding,
+    a_printed_failure_replays_to_itself, what_can_be_done_is_done, what_survives_a_crash,
+    workers_change_no_finding,
 };
 use message::Message;

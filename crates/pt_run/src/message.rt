@@ -1,5 +1,6 @@
 use pt_case::Record;
 use pt_report::Refusal;
+use pt_stored::Entries;
 use pt_val::Name;
 
 /// What a call of the program has to say, but for the report of a run.
@@ -8,4 +9,6 @@ pub enum Message {
     Refused(Refusal),
     /// What a replay on an item of this name left.
     Replayed { item: Name, rec: Record },
+    /// What the database holds.
+    Listed(Entries),
 }

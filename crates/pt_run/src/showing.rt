@@ -1,10 +1,12 @@
-ghost use Rattle.std.specs.Prelude.{◌≡◌, ◌≢◌, ◌≤◌, ◌↔◌, map, IfOk, OnErr, MatchOption, IsTrue, Contains};
+ghost use Rattle.std.specs.Prelude.{◌≡◌, ◌≢◌, ◌≤◌, ◌↔◌, ℕ, Option, map, IfOk, OnErr, MatchOption, IsTrue, Contains};
 ghost use Rattle.pt_choice.specs.Faults.{next_count};
 ghost use Rattle.pt_ast.specs.Plain.{plain_item, plain_suite};
 ghost use Rattle.pt_ast.specs.Suites.{IsTyped};
 ghost use Rattle.pt_ast.specs.Trees.{ItemTree};
+ghost use Rattle.pt_disk.specs.Moments.{Told};
 ghost use Rattle.pt_io.specs.Files.{IsSame};
 ghost use Rattle.pt_run.specs.Ends.{Ends, Says};
+ghost use Rattle.pt_run.specs.Outside.{outside};
 ghost use Rattle.pt_run.specs.Words.{Replay};
 
 use crate::loading::{Loaded, load};
@@ -18,7 +20,7 @@ use pt_item::{ItemCheck, typed_items_are_handed_in};
 use pt_report::Refusal;
 use std::alloc::Global;
 
-/// Replays the list on the item of this name.
+/// Replays the list on the item of this name, whatever the database holds.
 pub fn show<F: Files, K: Sink, C: Check>(
     alloc: Global,
     file: &str,
@@ -28,8 +30,8 @@ pub fn show<F: Files, K: Sink, C: Check>(
     sink: &mut K,
     checks: &[C],
 ) -> Result<Finish, NoMemory>
-    ensures ends { IfOk result (λ finish. Ends C.name C.step checks.now (Replay file.now wanted.now list.now)
-        (F.shows files.old) (F.shows files.new) finish (K.shows sink.old) (K.shows sink.new)) }
+    ensures ends { (faults : ℕ) (told : Option Told) → IfOk result (λ finish. Ends C.name C.step checks.now (Replay file.now wanted.now list.now)
+        (outside (F.shows files.old) faults told (K.shows sink.old)) (outside (F.shows files.new) faults told (K.shows sink.new)) finish) }
     ensures nothing { OnErr result (sink.new ≡ sink.old) }
     ensures quiet { OnErr result ((F.shows files.new).faults ≡ (F.shows files.old).faults) }
     ensures same { IsSame (F.shows files.old) (F.shows files.new) }

@@ -1,26 +1,28 @@
-ghost use Rattle.std.specs.Prelude.{◌≡◌, ◌≢◌, ◌≤◌, IfOk, OnErr, IsOk};
+ghost use Rattle.std.specs.Prelude.{◌≡◌, ◌≢◌, ◌≤◌, length, All, IfOk, OnErr, IsOk};
 ghost use Rattle.pt_io.specs.Sink.{Written, Appends, AppendsPart};
 ghost use Rattle.pt_report.specs.Refusals.{refusal_text};
 ghost use Rattle.pt_report.specs.declared.refusal.Refusal.{Refusal};
 ghost use Rattle.pt_report.specs.declared.refusal.Word.{Word};
 ghost use Rattle.pt_val.specs.declared.place.Place.{Place};
-ghost use Rattle.pt_run.specs.Message.{IsText, Tells, refusal_status};
+ghost use Rattle.pt_run.specs.Message.{IsTellable, IsText, Tells, refusal_status};
 
 use crate::{Finish, Message};
 use pt_case::Record;
 use pt_choice::NoMemory;
 use pt_found::Findings;
 use pt_io::{Sink, write_all};
-use pt_report::{Refusal, fixed_text, refusal_text, replayed};
+use pt_report::{Refusal, fixed_text, listed, refusal_text, replayed};
+use pt_stored::Entries;
 use pt_val::Name;
 use std::alloc::Global;
 
-// The status where the output failed.
-const FAILED_WRITE: u8 = 5;
+/// The status where the output failed.
+pub const FAILED_WRITE: u8 = 5;
 
 /// Writes what there is to say. Where the output fails, the status is 5; where memory runs out, nothing was written. A
 /// refusal that tells no place is told also then.
 pub fn tell<K: Sink>(alloc: Global, sink: &mut K, message: Message) -> Result<Finish, NoMemory>
+    requires { IsTellable message }
     ensures told { IfOk result (λ finish. Tells message finish (K.shows sink.old) (K.shows sink.new)) }
     ensures refused { (refusal : Refusal) → message ≡ Message.Refused refusal → ((at : Place) (which : Word) → refusal ≢ Refusal.Suite at which) → IsOk result }
     ensures nothing { OnErr result (sink.new ≡ sink.old) }
@@ -29,6 +31,7 @@ pub fn tell<K: Sink>(alloc: Global, sink: &mut K, message: Message) -> Result<Fi
     match message {
         Message::Refused(refusal) => refuse(alloc, sink, refusal),
         Message::Replayed { item, rec } => show_replay(alloc, sink, item, rec),
+        Message::Listed(entries) => show_entries(alloc, sink, entries),
     }
 }
 
@@ -59,6 +62,7 @@ fn refuse_with<K: Sink>(alloc: Global, sink: &mut K, refusal: Refusal, text: &[u
         status,
         findings: Findings::empty(alloc),
         replayed: None,
+        clash: None,
     }
 }
 
@@ -94,11 +98,33 @@ fn show_replay<K: Sink>(
             status: FAILED_WRITE,
             findings,
             replayed: None,
+            clash: None,
         });
     }
     Ok(Finish {
         status: if rec.ending.is_failure() { 1 } else { 0 },
         findings,
         replayed: Some(rec),
+        clash: None,
+    })
+}
+
+// Writes the lines of the entries, and how many there are.
+fn show_entries<K: Sink>(alloc: Global, sink: &mut K, entries: Entries) -> Result<Finish, NoMemory>
+    requires { All (λ entry. length entry.bytes ≤ 65536) entries }
+    ensures told { IfOk result (λ finish. Tells (Message.Listed entries) finish (K.shows sink.old) (K.shows sink.new)) }
+    ensures nothing { OnErr result (sink.new ≡ sink.old) }
+    ensures later { (K.shows sink.old).faults ≤ (K.shows sink.new).faults }
+{
+    let text = listed(alloc, entries.as_slice())?;
+    let status = match write_all(sink, text.as_slice()) {
+        Ok(()) => 0,
+        Err(_) => FAILED_WRITE,
+    };
+    Ok(Finish {
+        status,
+        findings: Findings::empty(alloc),
+        replayed: None,
+        clash: None,
     })
 }

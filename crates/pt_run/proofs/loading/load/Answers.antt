@@ -1,4 +1,4 @@
-use Rattle.std.proofs.Common.{◌≡◌, ℕ, List, IfOk, map, subst}
+use Rattle.std.proofs.Common.{ℕ, List, IfOk, map, subst}
 use Rattle.pt_run.specs.Suite.{ComesTo, IsLoaded}
 use Rattle.pt_run.proofs.Messages.{IfOk-follows}
 use Rattle.pt_run.proofs.Suites.{loaded}

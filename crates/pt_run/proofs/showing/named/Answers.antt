@@ -1,4 +1,4 @@
-use Rattle.std.proofs.Common.{◌≡◌, ℕ, Some, ◌∙◌, ap, sym, subst, below_more, arith}
+use Rattle.std.proofs.Common.{◌≡◌, ℕ, Some, ◌∙◌, ap, below_more, arith}
 use Rattle.std.specs.Prelude.{◌≢◌, slice_get}
 use Rattle.std.proofs.lemmas.Option.{get_or_from_slice_get}
 use Rattle.pt_ast.specs.declared.suite.Item.{Item}
