@@ -2,12 +2,17 @@
 #![tactic(auto)]
 
 mod command_line;
+mod folder;
+mod folder_disk;
+mod folder_path;
 mod handed;
+mod listing;
 mod outcome;
 mod real_files;
 mod std_sink;
 mod testing;
 
+pub use folder_disk::FolderDisk;
 pub use handed::Handed;
 pub use real_files::RealFiles;
 pub use std_sink::StdSink;

@@ -4,7 +4,7 @@ ghost use Rattle.pt_run.specs.Message.{IsStatus};
 ghost use Rattle.pt_run.specs.Suite.{HaveOwnNames};
 
 use crate::command_line::words;
-use crate::{RealFiles, StdSink};
+use crate::{FolderDisk, RealFiles, StdSink};
 use pt_case::Check;
 use pt_choice::NoMemory;
 use pt_run::{Finish, top};
@@ -17,8 +17,12 @@ use std::thread::Threads;
 /// The exit status where memory ran out.
 pub const OUT_OF_MEMORY: u8 = 7;
 
+// The folder of the database, below the current one.
+const DATABASE: &str = "pt_examples";
+
 /// All that a tester does with these checks, no two of which have one name: does what the words of its command line
-/// ask for, with the files of the machine and its standard output, and answers the exit status.
+/// ask for, with the files of the machine, the folder `pt_examples` below the current one and the standard output, and answers
+/// the exit status.
 pub fn tester<R: Env + Files + Print + AllocGlobal + Threads + Sync, C: Check>(
     rt: &R,
     checks: &[C],
@@ -38,12 +42,14 @@ fn over_the_machine<R: Env + Files + Print + AllocGlobal + Threads + Sync, C: Ch
 {
     let words = words(rt)?;
     let mut files = RealFiles::of(rt);
+    let mut disk = FolderDisk::of(rt, rt.alloc(), DATABASE)?;
     let mut sink = StdSink::of(io::writer(rt));
     top(
         rt,
         rt.alloc(),
         words.as_slice(),
         &mut files,
+        &mut disk,
         &mut sink,
         checks,
     )

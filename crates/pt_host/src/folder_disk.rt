@@ -1,0 +1,126 @@
+ghost use Rattle.std.specs.Prelude.{◌≡◌, ◌≤◌, length, None, is_ok, IsErr, IsErrOf, IfOk, IfSome, OnOk, string_bytes};
+ghost use Rattle.pt_disk.specs.Folder.{After, after_rename};
+ghost use Rattle.pt_disk.specs.Calls.{HasCause, Rests, Changes, IsFirstPart};
+ghost use Rattle.pt_disk.specs.declared.change.Change.TheVariants as change;
+ghost use Rattle.pt_host.specs.FileNames.{IsFileName};
+
+use crate::folder::Folder;
+use crate::outcome::counted;
+use pt_choice::{NoMemory, Octets};
+use pt_disk::{Disk, DiskFailed, DiskStop, FileNames};
+use std::alloc::Global;
+use std::{io, rt};
+
+/// A folder of the machine, below the current one, which its first call makes where it is absent. It tells nothing of what it holds;
+/// each error counts as a fault.
+#[derive(Drop)]
+pub struct FolderDisk<'a, R: rt::Files> {
+    folder: Folder<'a, R>,
+    faults: u64,
+}
+
+impl<'a, R: rt::Files> FolderDisk<'a, R> {
+    /// The folder of this name. It makes no call of the machine yet, and no fault is counted. All the memory that its changing calls
+    /// need is taken here.
+    pub fn of(rt: &'a R, alloc: Global, folder: &str) -> Result<FolderDisk<'a, R>, NoMemory>
+        ensures folder { IfOk result (λ disk. string_bytes disk.folder.path.folder ≡ folder.now) }
+        ensures no_faults { IfOk result (λ disk. disk.faults ≡ 0) }
+    {
+        Ok(FolderDisk {
+            folder: Folder::of(rt, alloc, folder)?,
+            faults: 0,
+        })
+    }
+
+    /// How many calls failed.
+    pub fn faults(&self) -> u64
+        ensures { result ≡ self.now.faults }
+    {
+        self.faults
+    }
+}
+
+impl<R: rt::Files> Disk for FolderDisk<'_, R> {
+    ghost faults = { λ disk. disk.faults };
+
+    ghost tells = { λ disk. None };
+
+    fn names(&mut self, alloc: Global) -> Result<FileNames, DiskStop> {
+        let names = self.folder.names(alloc);
+        answered(&mut self.faults, names)
+    }
+
+    fn read(&mut self, alloc: Global, name: &[u8], cap: usize) -> Result<Option<Octets>, DiskStop>
+        ensures part { IfOk result (IsFirstPart None name.now cap) }
+        ensures within { IfOk result (λ read. IfSome read (λ bytes. length bytes ≤ cap)) }
+        ensures rests { Rests None None }
+        ensures cause { HasCause (IsErrOf result DiskStop.Failed) self.old.faults self.new.faults }
+        ensures misnamed { ¬ IsFileName name.now → IsErrOf result DiskStop.Failed }
+    {
+        let read = self.folder.read(alloc, name, cap);
+        answered(&mut self.faults, read)
+    }
+
+    fn put(&mut self, name: &[u8], bytes: &[u8]) -> Result<(), DiskFailed>
+        ensures changes { Changes (After (change.Put name.now bytes.now)) (is_ok result) None None }
+        ensures cause { HasCause (IsErr result) self.old.faults self.new.faults }
+        ensures file { OnOk result (IsFileName name.now) }
+    {
+        let put = self.folder.put(name, bytes);
+        done(&mut self.faults, put)
+    }
+
+    fn sync(&mut self, name: &[u8]) -> Result<(), DiskFailed>
+        ensures changes { Changes (After (change.Sync name.now)) (is_ok result) None None }
+        ensures cause { HasCause (IsErr result) self.old.faults self.new.faults }
+        ensures file { OnOk result (IsFileName name.now) }
+    {
+        let synced = self.folder.sync(name);
+        done(&mut self.faults, synced)
+    }
+
+    fn rename(&mut self, from: &[u8], to: &[u8]) -> Result<(), DiskFailed>
+        ensures changes { Changes (after_rename from.now to.now) (is_ok result) None None }
+        ensures cause { HasCause (IsErr result) self.old.faults self.new.faults }
+        ensures files { OnOk result (IsFileName from.now × IsFileName to.now) }
+    {
+        let renamed = self.folder.rename(from, to);
+        done(&mut self.faults, renamed)
+    }
+
+    fn remove(&mut self, name: &[u8]) -> Result<(), DiskFailed>
+        ensures changes { Changes (After (change.Remove name.now)) (is_ok result) None None }
+        ensures cause { HasCause (IsErr result) self.old.faults self.new.faults }
+        ensures file { OnOk result (IsFileName name.now) }
+    {
+        let removed = self.folder.remove(name);
+        done(&mut self.faults, removed)
+    }
+
+    fn settle(&mut self) -> Result<(), DiskFailed> {
+        let settled = self.folder.settle();
+        done(&mut self.faults, settled)
+    }
+}
+
+// What came of a call that reads.
+fn answered<T: Drop>(faults: &mut u64, outcome: Result<T, DiskStop>) -> Result<T, DiskStop>
+    ensures same { result ≡ outcome }
+    ensures cause { HasCause (IsErrOf outcome DiskStop.Failed) faults.old faults.new }
+{
+    if let Err(DiskStop::Failed) = &outcome {
+        let _failed = counted::<(), DiskStop>(faults, Err(DiskStop::Failed));
+    }
+    outcome
+}
+
+// What came of a call that changes the folder.
+fn done(faults: &mut u64, outcome: io::Result<()>) -> Result<(), DiskFailed>
+    ensures same { is_ok result ≡ is_ok outcome }
+    ensures cause { HasCause (IsErr result) faults.old faults.new }
+{
+    match counted(faults, outcome) {
+        Ok(()) => Ok(()),
+        Err(_) => Err(DiskFailed),
+    }
+}
