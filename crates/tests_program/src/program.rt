@@ -1,10 +1,11 @@
-//! The program's one call over files and an output in memory.
+//! The program's one call over files, a folder and an output in memory.
 
 ghost use Rattle.std.specs.Prelude.{◌≤◌, length, IfOk};
 
 use crate::samples::{Ends, Noting, Way};
 use pt_case::Check;
 use pt_choice::{NoMemory, Octets};
+use pt_disk::MemoryDisk;
 use pt_io::{Calls, MemoryFiles, MemorySink, NamedFiles};
 use pt_run::top;
 use std::alloc::Global;
@@ -35,7 +36,9 @@ fn is_shown<R: Threads + Sync, C: Check>(
     let words = words(alloc, row.words)?;
     let mut files = MemoryFiles::of(files(alloc, row.suite)?, calls(alloc, row.read)?);
     let mut sink = MemorySink::of(alloc, calls(alloc, row.write)?);
-    let finish = top(rt, alloc, words.as_slice(), &mut files, &mut sink, checks)?;
+    let mut disk = empty_folder(alloc)?;
+    let words = words.as_slice();
+    let finish = top(rt, alloc, words, &mut files, &mut disk, &mut sink, checks)?;
     Ok(
         sink.written() == row.output.as_bytes()
             && finish.status == row.status
@@ -58,7 +61,7 @@ fn is_noted<R: Threads + Sync>(rt: &R, alloc: Global, row: Row) -> Result<bool, 
     is_shown(rt, alloc, &[check], row)
 }
 
-fn words(alloc: Global, of: &[&str]) -> Result<Vec<String>, NoMemory> {
+pub(crate) fn words(alloc: Global, of: &[&str]) -> Result<Vec<String>, NoMemory> {
     let mut words = Vec::new(alloc);
     for word in of {
         words.push(String::from_str(alloc, word)?)?;
@@ -67,7 +70,7 @@ fn words(alloc: Global, of: &[&str]) -> Result<Vec<String>, NoMemory> {
 }
 
 // The file `s`, if there is one.
-fn files(alloc: Global, suite: Option<&str>) -> Result<NamedFiles, NoMemory>
+pub(crate) fn files(alloc: Global, suite: Option<&str>) -> Result<NamedFiles, NoMemory>
     ensures { IfOk result (λ files. length files ≤ 1) }
 {
     let mut files = NamedFiles::empty(alloc);
@@ -76,6 +79,15 @@ fn files(alloc: Global, suite: Option<&str>) -> Result<NamedFiles, NoMemory>
         files.push((name, Octets::of(alloc, text.as_bytes())?))?;
     }
     Ok(files)
+}
+
+// A folder with no files, of which no call fails.
+fn empty_folder(alloc: Global) -> Result<MemoryDisk, NoMemory> {
+    MemoryDisk::of(
+        alloc,
+        pt_disk::NamedFiles::empty(alloc),
+        pt_disk::Calls::empty(alloc),
+    )
 }
 
 // The call of this number, if one is to fail.

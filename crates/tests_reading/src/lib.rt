@@ -12,6 +12,8 @@ mod faults;
 #[cfg(test)]
 mod long;
 #[cfg(test)]
+mod made;
+#[cfg(test)]
 mod shown;
 #[cfg(test)]
 mod suites;

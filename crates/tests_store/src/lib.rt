@@ -17,3 +17,5 @@ mod stops;
 mod store;
 #[cfg(test)]
 mod stored;
+#[cfg(test)]
+mod turns;

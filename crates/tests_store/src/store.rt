@@ -1,5 +1,7 @@
 //! Calls of a store as text: `save abc 12` stores the value `12` under the key `abc`.
 
+ghost use Rattle.std.specs.Prelude.{◌≡◌, false, IfOk};
+
 use pt_db::{Store, StoreFault};
 use pt_disk::MemoryDisk;
 use pt_stored::{Entries, MAX_VALUE};
@@ -7,7 +9,9 @@ use std::alloc::{AllocError, Global};
 use std::test::Fail;
 
 /// The store of this folder.
-pub fn attached(alloc: Global, disk: &mut MemoryDisk) -> Result<Store<'_, MemoryDisk>, Fail> {
+pub fn attached(alloc: Global, disk: &mut MemoryDisk) -> Result<Store<'_, MemoryDisk>, Fail>
+    ensures { IfOk result (λ store. store.dead ≡ false) }
+{
     match Store::attach(alloc, disk) {
         Ok(store) => Ok(store),
         Err(_lost) => Err(Fail::from("not attached")),

@@ -1,0 +1,240 @@
+//! A folder of the machine: as a disk, and below a store of examples.
+
+use pt_choice::{NoMemory, Octets};
+use pt_db::{Store, StoreFault};
+use pt_disk::{Disk, DiskFailed, DiskStop};
+use pt_host::FolderDisk;
+use std::alloc::Global;
+use std::fs;
+use std::io::Write;
+use std::rt::Files;
+use std::test::Fail;
+
+// A call, and what it answers.
+type Call = (&'static str, &'static str);
+
+// A name is absent after a remove, whether it was there or not.
+const CALLS: [Call; 23] = [
+    ("names", "-"),
+    ("put b xyz", "ok"),
+    ("sync b", "ok"),
+    ("names", "b"),
+    ("put a 1", "ok"),
+    ("put B 2", "ok"),
+    ("settle", "ok"),
+    ("names", "B a b"),
+    ("read b 2", "xy"),
+    ("read b 4097", "xyz"),
+    ("read b 0", ""),
+    ("read c 9", "-"),
+    ("rename b c", "ok"),
+    ("settle", "ok"),
+    ("names", "B a c"),
+    ("read b 9", "-"),
+    ("put c 0", "ok"),
+    ("read c 9", "0"),
+    ("remove a", "ok"),
+    ("remove a", "ok"),
+    ("sync a", "failed"),
+    ("rename a b", "failed"),
+    ("names", "B c"),
+];
+
+// There is a folder `within`.
+const AROUND: [Call; 3] = [
+    ("names", "within"),
+    ("read within 9", "failed"),
+    ("put within 1", "failed"),
+];
+
+// There is a file where the folder is to be made.
+const OCCUPIED: [Call; 7] = [
+    ("settle", "failed"),
+    ("names", "failed"),
+    ("read a 9", "failed"),
+    ("put a 1", "failed"),
+    ("sync a", "failed"),
+    ("rename a b", "failed"),
+    ("remove a", "failed"),
+];
+
+const FREE: [Call; 2] = [("settle", "ok"), ("read a 9", "-")];
+
+// Names that no file may have.
+const MISNAMED: [&[u8]; 7] = [b"", b".", b"..", b"a/b", b"a\0b", b"\xff", &[b'a'; 256]];
+
+// What a call answers, as `put NAME BYTES` or `read NAME CAP`.
+fn answer<R: Files>(
+    alloc: Global,
+    disk: &mut FolderDisk<'_, R>,
+    call: &str,
+) -> Result<Octets, NoMemory> {
+    match made(alloc, disk, call) {
+        Ok(answer) => Ok(answer),
+        Err(DiskStop::Failed) => Octets::of(alloc, b"failed"),
+        Err(DiskStop::NoMemory) => Err(NoMemory),
+    }
+}
+
+fn made<R: Files>(
+    alloc: Global,
+    disk: &mut FolderDisk<'_, R>,
+    call: &str,
+) -> Result<Octets, DiskStop> {
+    let mut words = call.split(' ');
+    let verb = words.next().unwrap_or("");
+    let name = words.next().unwrap_or("").as_bytes();
+    let second = words.next().unwrap_or("");
+    match verb {
+        "names" => Ok(joined(alloc, disk.names(alloc)?.as_slice())?),
+        "read" => match disk.read(alloc, name, second.parse().unwrap_or(9))? {
+            Some(bytes) => Ok(bytes),
+            None => Ok(Octets::of(alloc, b"-")?),
+        },
+        "put" => done(alloc, disk.put(name, second.as_bytes())),
+        "sync" => done(alloc, disk.sync(name)),
+        "rename" => done(alloc, disk.rename(name, second.as_bytes())),
+        "remove" => done(alloc, disk.remove(name)),
+        _ => done(alloc, disk.settle()),
+    }
+}
+
+fn done(alloc: Global, outcome: Result<(), DiskFailed>) -> Result<Octets, DiskStop> {
+    outcome?;
+    Ok(Octets::of(alloc, b"ok")?)
+}
+
+// The names in their order; `-` where there are none.
+fn joined(alloc: Global, names: &[Octets]) -> Result<Octets, NoMemory> {
+    let mut text = Octets::empty(alloc);
+    for name in names {
+        if text.len() > 0 {
+            text.push(b' ')?;
+        }
+        for byte in name.as_slice() {
+            text.push(*byte)?;
+        }
+    }
+    if text.len() == 0 {
+        text.push(b'-')?;
+    }
+    Ok(text)
+}
+
+// The first call that answers otherwise, or that counts a fault and does not fail, or the other way round.
+fn first_wrong<R: Files>(
+    alloc: Global,
+    disk: &mut FolderDisk<'_, R>,
+    calls: &[Call],
+) -> Result<Option<&'static str>, NoMemory> {
+    for (call, want) in calls {
+        let before = disk.faults();
+        let answer = answer(alloc, disk, call)?;
+        let rose = disk.faults() > before;
+        if answer.as_slice() != want.as_bytes() || rose != (*want == "failed") {
+            return Ok(Some(*call));
+        }
+    }
+    Ok(None)
+}
+
+#[test]
+fn a_folder_is_made_and_keeps_its_files(rt: HostRuntime) -> Result<(), Fail> {
+    let alloc = rt.alloc();
+    let mut disk = FolderDisk::of(&rt, alloc, "a_folder_of_calls")?;
+    let wrong = first_wrong(alloc, &mut disk, &CALLS);
+    fs::remove_dir_all(&rt, "a_folder_of_calls")?;
+    assert_eq!(rt; wrong, Ok(None));
+    Ok(())
+}
+
+#[test]
+fn a_folder_within_is_named_and_is_no_file(rt: HostRuntime) -> Result<(), Fail> {
+    let alloc = rt.alloc();
+    fs::create_dir_all(&rt, "a_folder_around/within")?;
+    let mut disk = FolderDisk::of(&rt, alloc, "a_folder_around")?;
+    let wrong = first_wrong(alloc, &mut disk, &AROUND);
+    fs::remove_dir_all(&rt, "a_folder_around")?;
+    assert_eq!(rt; wrong, Ok(None));
+    Ok(())
+}
+
+// What stands where the folder is to be: a file, then nothing, then a file again.
+fn fails_where_a_file_stands<R: Files>(rt: &R, alloc: Global, place: &str) -> Result<bool, Fail> {
+    let mut disk = FolderDisk::of(rt, alloc, place)?;
+    fs::create(rt, place)?.write_all(b"1")?;
+    let occupied = first_wrong(alloc, &mut disk, &OCCUPIED)?;
+    fs::remove_file(rt, place)?;
+    let free = first_wrong(alloc, &mut disk, &FREE)?;
+    fs::remove_dir(rt, place)?;
+    fs::create(rt, place)?.write_all(b"1")?;
+    let replaced = first_wrong(alloc, &mut disk, &OCCUPIED[1..])?;
+    fs::remove_file(rt, place)?;
+    Ok(occupied == None && free == None && replaced == None)
+}
+
+#[test]
+fn a_folder_that_is_no_folder_fails_each_call(rt: HostRuntime) -> Result<(), Fail> {
+    assert!(rt; fails_where_a_file_stands(&rt, rt.alloc(), "a_file_for_a_folder")?);
+    Ok(())
+}
+
+// How many calls fail that are given this name, of which there are six: a rename is from it or to it.
+fn refusals<R: Files>(alloc: Global, disk: &mut FolderDisk<'_, R>, name: &[u8]) -> u64 {
+    let before = disk.faults();
+    let _read = disk.read(alloc, name, 9);
+    let _put = disk.put(name, b"1");
+    let _synced = disk.sync(name);
+    let _from = disk.rename(name, b"there");
+    let _to = disk.rename(b"there", name);
+    let _removed = disk.remove(name);
+    disk.faults().saturating_sub(before)
+}
+
+// Whether just these names are refused, and the longest one is taken.
+fn refuses_names<R: Files>(alloc: Global, disk: &mut FolderDisk<'_, R>) -> Result<bool, DiskStop> {
+    disk.put(b"there", b"1")?;
+    for name in MISNAMED {
+        if refusals(alloc, disk, name) != 6 {
+            return Ok(false);
+        }
+    }
+    disk.put(&[b'a'; 255], b"1")?;
+    Ok(disk.names(alloc)?.len() == 2)
+}
+
+#[test]
+fn a_name_that_no_file_may_have_is_a_fault(rt: HostRuntime) -> Result<(), Fail> {
+    let alloc = rt.alloc();
+    let mut disk = FolderDisk::of(&rt, alloc, "a_folder_of_names")?;
+    let refused = refuses_names(alloc, &mut disk);
+    fs::remove_dir_all(&rt, "a_folder_of_names")?;
+    assert_eq!(rt; refused, Ok(true));
+    Ok(())
+}
+
+// Whether the value 12 is kept for a key once it was saved, and not after it was deleted.
+fn is_kept_and_deleted<R: Files>(
+    alloc: Global,
+    disk: &mut FolderDisk<'_, R>,
+) -> Result<bool, StoreFault> {
+    let Ok(mut store) = Store::attach(alloc, disk) else {
+        return Err(StoreFault::Disk);
+    };
+    store.save(b"abc", b"12")?;
+    let kept = store.fetch(b"abc")?;
+    store.delete(b"abc", b"12")?;
+    let left = store.fetch(b"abc")?;
+    store.close();
+    Ok(kept.len() == 1 && left.len() == 0)
+}
+
+#[test]
+fn a_store_keeps_its_examples_in_a_folder(rt: HostRuntime) -> Result<(), Fail> {
+    let alloc = rt.alloc();
+    let mut disk = FolderDisk::of(&rt, alloc, "a_folder_of_examples")?;
+    let kept = is_kept_and_deleted(alloc, &mut disk);
+    fs::remove_dir_all(&rt, "a_folder_of_examples")?;
+    assert!(rt; matches!(kept, Ok(true)));
+    Ok(())
+}
