@@ -19,7 +19,7 @@ _gathorni() {
     words=("${words[0]}" "${words[@]:2}") at=$((at - 1))
   fi
   case $at:${words[1]} in
-    1:*) told='test run replay new help --help --unproved' ;;
+    1:*) told='test run replay stored make new help --help --unproved' ;;
     2:help) told=$(_gathorni_words "${words[0]}") ;;
     3:replay) told=$(_gathorni_items "${words[2]}") ;;
     *:test)
