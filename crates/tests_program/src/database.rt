@@ -24,9 +24,11 @@ struct Row {
 
 const BELOW_TEN: &str = "property abc {\n  draw x = ints(0, 1000);\n  assert x < 10;\n}\n";
 
-const TEN_FOUND: &str = "abc: failed at 3:3 (assert), minimal\n  found in the database\n  x = 10\n  choices: i10\n0 passed, 1 failed, 0 gave up\n";
+const TEN_FOUND: &str =
+    "abc: failed at 3:3 (assert), minimal\n  found in the database\n  x = 10\n  choices: i10\n0 passed, 1 failed, 0 gave up\n";
 
-const TWO_LISTED: &str = "ba7816bf8f01cfea414140de5dae2223b00361a396177a9cb410ff61f20015ad i10\nba7816bf8f01cfea414140de5dae2223b00361a396177a9cb410ff61f20015ad i573\n2 stored\n";
+const TWO_LISTED: &str =
+    "ba7816bf8f01cfea414140de5dae2223b00361a396177a9cb410ff61f20015ad i10\nba7816bf8f01cfea414140de5dae2223b00361a396177a9cb410ff61f20015ad i573\n2 stored\n";
 
 // A failure that is reduced, of version 2 and of version 1; and entries that fail no longer, or are none.
 const ROWS: [Row; 4] = [
@@ -118,11 +120,11 @@ impl Told {
 fn told<R: Threads + Sync>(
     rt: &R,
     alloc: Global,
-    words: &[&str],
+    asked: &[&str],
     suite: &str,
     disk: &mut MemoryDisk,
 ) -> Result<Told, NoMemory> {
-    let words = words(alloc, words)?;
+    let words = words(alloc, asked)?;
     let words = words.as_slice();
     let mut files = MemoryFiles::of(files(alloc, Some(suite))?, Calls::empty(alloc));
     let mut sink = MemorySink::of(alloc, Calls::empty(alloc));
@@ -170,12 +172,7 @@ enum Stop {
     Wrong,
 }
 
-fn stop_at<R: Threads + Sync>(
-    rt: &R,
-    alloc: Global,
-    row: Row,
-    number: u64,
-) -> Result<Stop, Fail> {
+fn stop_at<R: Threads + Sync>(rt: &R, alloc: Global, row: Row, number: u64) -> Result<Stop, Fail> {
     let mut disk = stored_in(alloc, row.name, row.before, Some(number))?;
     let report = told(rt, alloc, RUN, row.suite, &mut disk)?;
     if report.is(row.output, row.status) {
@@ -217,7 +214,7 @@ fn mended_calls<R: Threads + Sync>(rt: &R, alloc: Global, row: Row) -> Result<u6
 
 #[test]
 fn a_run_that_the_disk_stopped_is_run_again(rt: HostRuntime) -> Result<(), Fail> {
-    let calls = [8, 10, 10, 5];
+    let calls = [8, 16, 10, 4];
     for (row, calls) in ROWS.iter().zip(calls) {
         let made = mended_calls(&rt, rt.alloc(), *row)?;
         assert_eq!(rt; made, calls, "{row:?}");
