@@ -117,7 +117,7 @@ impl Told {
     }
 }
 
-fn told<R: Threads + Sync>(
+fn answered<R: Threads + Sync>(
     rt: &R,
     alloc: Global,
     asked: &[&str],
@@ -144,8 +144,8 @@ fn runs_so<R: Threads + Sync>(
     row: Row,
     disk: &mut MemoryDisk,
 ) -> Result<bool, NoMemory> {
-    let report = told(rt, alloc, RUN, row.suite, disk)?;
-    let listing = told(rt, alloc, STORED, row.suite, disk)?;
+    let report = answered(rt, alloc, RUN, row.suite, disk)?;
+    let listing = answered(rt, alloc, STORED, row.suite, disk)?;
     Ok(report.is(row.output, row.status) && listing.is(row.after, 0))
 }
 
@@ -174,7 +174,7 @@ enum Stop {
 
 fn stop_at<R: Threads + Sync>(rt: &R, alloc: Global, row: Row, number: u64) -> Result<Stop, Fail> {
     let mut disk = stored_in(alloc, row.name, row.before, Some(number))?;
-    let report = told(rt, alloc, RUN, row.suite, &mut disk)?;
+    let report = answered(rt, alloc, RUN, row.suite, &mut disk)?;
     if report.is(row.output, row.status) {
         return Ok(Stop::None);
     }
