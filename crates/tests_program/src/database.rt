@@ -72,7 +72,7 @@ const STORED: &[&str] = &["stored"];
 
 // The calls that `stored_in` makes: one to attach, and five for each value.
 const fn calls_before(values: usize) -> u64 {
-    1 + 5 * values as u64
+    (values as u64).saturating_mul(5).saturating_add(1)
 }
 
 // A folder that holds these values of one key. Its call of this number, from then on, will fail.

@@ -1,6 +1,7 @@
 //! That the runs of an item are made on as many workers as the words ask for.
 
 ghost use Rattle.std.specs.Prelude.{◌≡◌, []};
+ghost use Rattle.pt_case.specs.declared.ending.Ending.TheVariants.{Pass};
 ghost use Rattle.pt_case.specs.Step.{End};
 
 use crate::program::{files, words};
@@ -70,7 +71,7 @@ impl Both {
 impl Check for Both {
     ghost name = { λ check. check.name };
 
-    ghost step = { λ check choices answer. answer ≡ End Ending.Pass [] [] };
+    ghost step = { λ check choices answer. answer ≡ End Pass [] [] };
 
     fn name(&self) -> &Name {
         &self.name
