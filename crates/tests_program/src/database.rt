@@ -204,7 +204,7 @@ fn is_mended<R: Threads + Sync>(
 fn mended_calls<R: Threads + Sync>(rt: &R, alloc: Global, row: Row) -> Result<u64, Fail> {
     for number in 1..100 {
         match stop_at(rt, alloc, row, number)? {
-            Stop::None => return Ok(number - 1),
+            Stop::None => return Ok(number.saturating_sub(1)),
             Stop::Mended => {}
             Stop::Wrong => return Err(Fail::from("a stop was not mended")),
         }
