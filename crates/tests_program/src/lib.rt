@@ -4,13 +4,9 @@
 #![tactic(auto)]
 
 #[cfg(test)]
-mod database;
-#[cfg(test)]
 mod folder;
 #[cfg(test)]
 mod machine;
-#[cfg(test)]
-mod meeting;
 #[cfg(test)]
 mod program;
 #[cfg(test)]
