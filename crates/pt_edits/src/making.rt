@@ -6,6 +6,7 @@ ghost use Rattle.pt_edits.specs.Clash.{ClashesIn};
 ghost use Rattle.pt_edits.specs.Made.{Made};
 ghost use Rattle.pt_edits.specs.Pairs.{under};
 ghost use Rattle.pt_edits.specs.Short.{IsShortEdit};
+ghost use Rattle.pt_edits.specs.Stops.{IsDeadAfter};
 
 use crate::answer::answer_of;
 use crate::{Edit, Edits, StoreStop};
@@ -25,6 +26,7 @@ pub fn make_edits<D: Disk>(
     ensures clash { IfErr result (ClashesIn (map (under (digest_text key.now)) edits.now) (D.tells store.old.disk.now)) }
     ensures cause { HasCause (IsErrOf result StoreStop.Failed) (D.faults store.old.disk.now) (D.faults store.new.disk.now) }
     ensures alive { OnOk result (store.new.dead ≡ false) }
+    ensures dead { IfErr result (IsDeadAfter store.new.dead) }
 {
     for edit in edits.as_slice() {
         match make_edit(store, key, edit) {
@@ -44,6 +46,7 @@ fn make_edit<D: Disk>(store: &mut Store<'_, D>, key: &[u8], edit: &Edit) -> Resu
     ensures clash { IfErr result (ClashesIn (under (digest_text key.now) edit.now ∷ []) (D.tells store.old.disk.now)) }
     ensures cause { HasCause (IsErrOf result StoreStop.Failed) (D.faults store.old.disk.now) (D.faults store.new.disk.now) }
     ensures alive { OnOk result (store.new.dead ≡ false) }
+    ensures dead { IfErr result (IsDeadAfter store.new.dead) }
 {
     match edit {
         Edit::Save(value) => answer_of(store.save(key, value.as_slice())),

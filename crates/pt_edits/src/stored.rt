@@ -7,6 +7,7 @@ ghost use Rattle.pt_stored.specs.Entries.{IsShown};
 ghost use Rattle.pt_stored.specs.Stored.{IsStored};
 ghost use Rattle.pt_edits.specs.Clash.{IsNoClash};
 ghost use Rattle.pt_edits.specs.Readings.{AreOfKey, AreInFileOrder, IsSpelled, IsWritableReading};
+ghost use Rattle.pt_edits.specs.Stops.{IsDeadAfter};
 
 use crate::answer::stop_of;
 use crate::{Reading, Readings, StoreStop};
@@ -33,6 +34,7 @@ pub fn read_stored<D: Disk>(
     ensures rests { Rests (D.tells store.old.disk.now) (D.tells store.new.disk.now) }
     ensures cause { HasCause (IsErrOf result StoreStop.Failed) (D.faults store.old.disk.now) (D.faults store.new.disk.now) }
     ensures alive { OnOk result (store.new.dead ≡ false) }
+    ensures dead { IfErr result (IsDeadAfter store.new.dead) }
     ensures no_clash { IfErr result IsNoClash }
 {
     match store.fetch(key) {
