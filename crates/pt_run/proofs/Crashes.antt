@@ -1,209 +1,161 @@
 -- What a crash leaves of a run.
-use Rattle.std.proofs.Common.{◌≡◌, ◌⊎◌, inl, inr, ℕ, true, false, List, [], ◌∷◌, ◌++◌, length, take, Option, Some, None, refl, sym, ◌∙◌, ap, subst, append-nil, arith}
-use Rattle.std.specs.Prelude.{map}
+use Rattle.std.proofs.Common.{◌≡◌, ◌⊎◌, inl, inr, ⊎_elim, ℕ, ◌<◌, List, [], Option, Some, sym, ◌∙◌, ap, subst, arith, Global}
+use Rattle.std.specs.Prelude.{String, map}
 use Rattle.pt_choice.specs.declared.choice.Choice.{Choice}
-use Rattle.pt_ast.specs.Trees.{ItemTree}
+use Rattle.pt_ast.specs.Trees.{ItemTree, SuiteTree}
 use Rattle.pt_case.specs.Step.{Answer}
 use Rattle.pt_disk.specs.Files.{Files}
-use Rattle.pt_disk.specs.Folder.{Folder, reads, IsImage}
-use Rattle.pt_disk.specs.Leaves.{Leaves, IsTidy}
-use Rattle.pt_disk.specs.Moments.{Told, now, Elapsed, IsImageSince, BothTell}
-use Rattle.pt_disk.proofs.Folders.{leaves-weaker}
-use Rattle.pt_disk.proofs.Times.{elapsed-images, elapsed-then, elapsed-weaker}
-use Rattle.pt_stored.specs.Stored.{pending}
-use Rattle.pt_db.specs.Attaching.{Attached}
-use Rattle.pt_edits.specs.Made.{Made, Settled, SettledAnd}
-use Rattle.pt_edits.specs.Pairs.{PairEdit, IsAfterSome}
-use Rattle.pt_edits.specs.declared.stop.TwoValues.{TwoValues}
-use Rattle.pt_edits.proofs.SetLemmas.{some-of-first, some-of-more}
-use Rattle.pt_edits.proofs.UnderLemmas.{edits-under}
+use Rattle.pt_disk.specs.Folder.{IsImage}
+use Rattle.pt_disk.specs.Leaves.{IsTidy}
+use Rattle.pt_disk.specs.Moments.{Told, now, IsImageSince}
 use Rattle.pt_found.specs.declared.finding.Finding.{Finding}
-use Rattle.pt_turns.specs.Finishes.{Finishes, IsClashing, IsCut, IsHalted, PartlyDone}
-use Rattle.pt_turns.specs.Scene.{DiskShown, Scene}
-use Rattle.pt_turns.specs.Turn.{digest_of}
-use Rattle.pt_turns.specs.Turns.{AreTurnsAfter, AreTurns, FirstTurns}
-use Rattle.pt_turns.specs.declared.reporting.Reported.{Reported}
+use Rattle.pt_stored.specs.Stored.{pending}
+use Rattle.pt_turns.specs.Blocks.{AreWritten}
+use Rattle.pt_turns.specs.Crash.{IsMidway, IsAtExit}
+use Rattle.pt_turns.specs.Finishes.{Finishes, StoppedShort}
+use Rattle.pt_turns.specs.Scene.{DiskShown}
+use Rattle.pt_turns.proofs.CrashLemmas.{finished-left, stopped-left}
+use Rattle.pt_turns.proofs.ExitLemmas.{exit-kept, exit-midway, finished-exit, finished-end, stopped-exit}
+use Rattle.pt_turns.proofs.SoundLemmas.{nothing-lost, nothing-invented}
+use Rattle.pt_run.specs.declared.message.Message.TheVariants.{Refused}
 use Rattle.pt_run.specs.Call.{Call, Answers}
-use Rattle.pt_run.specs.Crash.{AreEditsOf, IsLeftBy}
-use Rattle.pt_run.specs.Ends.{Ends, reported_of}
-use Rattle.pt_run.specs.Outside.{scene_of}
+use Rattle.pt_run.specs.Crash.{OfTaken, IsSafe, IsLeft, IsLeftSince, IsLeftAtExit, IsLeftAtEnd}
+use Rattle.pt_run.specs.Ends.{Ends, EndsShort, reported_of}
+use Rattle.pt_run.specs.Message.{TellsAll, TellsPart}
+use Rattle.pt_run.specs.Outside.{Outside, scene_of}
 use Rattle.pt_run.specs.Suite.{IsTaken}
 use Rattle.pt_run.specs.Words.{Asked, Run, Replay, Stored, Make, AsksRun}
 use Rattle.pt_run.proofs.Asking.{Alike, asks_alike}
+use Rattle.pt_run.proofs.Workers.{not_below}
 
--- an image of the start, or what was stored then after some first ones of these edits
-abbrev IsLeft : Folder → List PairEdit → Files → Type 0
-IsLeft start edits image = IsImage start image ⊎ IsAfterSome edits (reads start) image
-
--- the images since the start of calls of which this holds at each moment
-left-since : (edits : List PairEdit) (old new : Told) (image : Files) → Elapsed (Leaves pending (IsLeft (now old) edits)) old new → IsImageSince new old.clock image →
-    IsLeft (now old) edits image
-left-since edits old new image elapsed since = of_images (elapsed-images (Leaves pending (IsLeft (now old) edits)) old new elapsed image since)
-  where
-    of_images : IsImage (now old) image ⊎ ((folder : Folder) × Leaves pending (IsLeft (now old) edits) folder × IsImage folder image) → IsLeft (now old) edits image
-    of_images (inl is) = inl is
-    of_images (inr (folder, leaves, is)) = leaves.images image is
-
--- the folder was settled, edits were made, and then some first ones of more
-settled-and-left : (edits more : List PairEdit) (old mid new : Told) → IsTidy pending (now old) → Settled edits true old mid → Made more false mid new →
-    Elapsed (Leaves pending (IsLeft (now old) (edits ++ more))) old new
-settled-and-left edits more old mid new tidy settled made =
-    elapsed-then (Leaves pending (IsLeft (now old) (edits ++ more))) old mid new
-    (elapsed-weaker (Leaves pending (IsLeft (now old) edits)) (Leaves pending (IsLeft (now old) (edits ++ more))) old mid
-    (λ folder. leaves-weaker pending (IsLeft (now old) edits) (IsLeft (now old) (edits ++ more)) folder first)
-    (settled.any_moment tidy))
-    (elapsed-weaker (Leaves pending (IsAfterSome more (reads (now mid)))) (Leaves pending (IsLeft (now old) (edits ++ more))) mid new
-    (λ folder. leaves-weaker pending (IsAfterSome more (reads (now mid))) (IsLeft (now old) (edits ++ more)) folder
-    (λ image some. inr (some-of-more edits more (reads (now old)) (reads (now mid)) image (settled.edited refl) some)))
-    (made.any_moment (settled.rests tidy refl)))
-  where
-    first : (image : Files) → IsLeft (now old) edits image → IsLeft (now old) (edits ++ more) image
-    first image (inl is) = inl is
-    first image (inr some) = inr (some-of-first edits more (reads (now old)) image some)
-
-both-left : (edits more : List PairEdit) (old new : Told) (image : Files) → IsTidy pending (now old) → SettledAnd edits more (Some old) (Some new) →
-    IsImageSince new old.clock image → IsLeft (now old) (edits ++ more) image
-both-left edits more old new image tidy (None, settled, made) since = absurd settled
-both-left edits more old new image tidy (Some mid, settled, made) since =
-    left-since (edits ++ more) old new image (settled-and-left edits more old mid new tidy settled made) since
-
-all-left : (edits : List PairEdit) (old new : Told) (image : Files) → IsTidy pending (now old) → BothTell (Settled edits true) (Some old) (Some new) →
-    IsImageSince new old.clock image → IsLeft (now old) (edits ++ []) image
-all-left edits old new image tidy settled since =
-    subst (λ (es : List PairEdit). IsLeft (now old) es image) (sym (append-nil edits)) (left-since edits old new image (settled.any_moment tidy) since)
-
--- a folder that could not be settled has the images of its start
-unsettled-left : (old new : Told) (image : Files) → BothTell (Attached false) (Some old) (Some new) → IsImageSince new old.clock image → IsImage (now old) image
-unsettled-left old new image settled since =
-    of_images (elapsed-images (λ folder. (i : Files) → IsImage folder i → IsImage (now old) i) old new settled.moments image since)
-  where
-    of_images : IsImage (now old) image ⊎ ((folder : Folder) × ((i : Files) → IsImage folder i → IsImage (now old) i) × IsImage folder image) → IsImage (now old) image
-    of_images (inl is) = is
-    of_images (inr (folder, left, is)) = left image is
-
-module _ {C : Type 0} (name : C → List ℕ) (step : C → List Choice → Answer → Type 0) (checks : List C) (seed : ℕ) where
-  -- where all items had their turns, there are as many findings
-  all-first : (told : Option Told) (done : List PairEdit) (items : List ItemTree) (findings : List Finding) (all : List PairEdit) →
-      AreTurnsAfter name step checks seed told done items findings all → take (length findings) items ≡ items
-  all-first told done [] [] all turns = refl
-  all-first told done (item ∷ items) (finding ∷ findings) all turns =
-      ap (λ (rest : List ItemTree). item ∷ rest) (all-first told (done ++ turns.0) items findings all turns.2)
-  all-first told done [] (finding ∷ findings) all turns = absurd turns
-  all-first told done (item ∷ items) [] all turns = absurd turns
-
-  first-turns : (told : Option Told) (items : List ItemTree) (findings : List Finding) (all : List PairEdit) → AreTurns name step checks seed told items findings all →
-      FirstTurns name step checks seed told items findings all
-  first-turns told items findings all turns =
-      subst (λ (some : List ItemTree). AreTurns name step checks seed told some findings all) (sym (all-first told [] items findings all turns)) turns
-
-  -- what a crash leaves of a run over these items
-  abbrev IsLeftOf : List ItemTree → List Finding → Told → Files → Type 0
-  IsLeftOf items findings old image = IsImage (now old) image
-      ⊎ ((edits : List PairEdit) × AreEditsOf name step checks seed (Some old) items findings edits × IsAfterSome edits (reads (now old)) image)
-
-  module _ (items : List ItemTree) (findings : List Finding) (old new : Told) (image : Files) (tidy : IsTidy pending (now old))
-      (since : IsImageSince new old.clock image) where
-    of_left : (edits : List PairEdit) → AreEditsOf name step checks seed (Some old) items findings edits → IsLeft (now old) edits image → IsLeftOf items findings old image
-    of_left edits are (inl is) = inl is
-    of_left edits are (inr some) = inr (edits, are, some)
-
-    of_first : (edits : List PairEdit) → FirstTurns name step checks seed (Some old) items findings edits → BothTell (Settled edits true) (Some old) (Some new) → IsLeftOf items findings old image
-    of_first edits turns settled =
-        of_left (edits ++ []) (record { turned = edits; turns = turns; more = []; of_next = inl refl; all = refl }) (all-left edits old new image tidy settled since)
-
-    of_partly : PartlyDone name step checks seed items findings (Some old) (Some new) → IsLeftOf items findings old image
-    of_partly partly =
-        of_left (partly.edits ++ partly.more)
-        (record { turned = partly.edits; turns = partly.turns; more = partly.more; of_next = partly.of_next; all = refl })
-        (both-left partly.edits partly.more old new image tidy partly.kept since)
-
-    of_halted : IsHalted name step checks seed items findings (Some old) (Some new) → IsLeftOf items findings old image
-    of_halted (inl (none, settled)) = inl (unsettled-left old new image settled since)
-    of_halted (inr partly) = of_partly partly
-
-    of_clashing : (two : TwoValues) → IsClashing name step checks seed items findings two (Some old) (Some new) → IsLeftOf items findings old image
-    of_clashing two clashing =
-        of_left (clashing.edits ++ clashing.more)
-        (record {
-          turned = clashing.edits;
-          turns = clashing.turns;
-          more = clashing.more;
-          of_next = inr (clashing.next, clashing.stands, edits-under (digest_of clashing.next) clashing.turn.readings clashing.finding.verdict clashing.finding.failing clashing.more clashing.turn.edited);
-          all = refl;
-        })
-        (both-left clashing.edits clashing.more old new image tidy clashing.kept since)
-
-  of_finish : (items : List ItemTree) (reported : Reported) (before after : Scene) (old new : Told) (image : Files) → before.disk.told ≡ Some old →
-      after.disk.told ≡ Some new → IsTidy pending (now old) → IsImageSince new old.clock image →
-      Finishes name step checks seed items reported before after → IsLeftOf items reported.findings old image
-  of_finish items reported before after old new image told telling tidy since finishes = of_ends finishes
-    where
-      at : (P : Option Told → Option Told → Type 0) → P before.disk.told after.disk.told → P (Some old) (Some new)
-      at P is = subst (λ (t : Option Told). P (Some old) t) telling (subst (λ (t : Option Told). P t after.disk.told) told is)
-
-      settled_at : (edits : List PairEdit) → BothTell (Settled edits true) before.disk.told after.disk.told → BothTell (Settled edits true) (Some old) (Some new)
-      settled_at edits is = at (BothTell (Settled edits true)) is
-
-      turns_at : (edits : List PairEdit) → FirstTurns name step checks seed before.disk.told items reported.findings edits →
-          FirstTurns name step checks seed (Some old) items reported.findings edits
-      turns_at edits turns = subst (λ (t : Option Told). FirstTurns name step checks seed t items reported.findings edits) told turns
-
-      halted_at : IsHalted name step checks seed items reported.findings before.disk.told after.disk.told → IsLeftOf items reported.findings old image
-      halted_at halted = of_halted items reported.findings old new image tidy since (at (IsHalted name step checks seed items reported.findings) halted)
-
-      clashing_at : (two : TwoValues) → IsClashing name step checks seed items reported.findings two before.disk.told after.disk.told →
-          IsLeftOf items reported.findings old image
-      clashing_at two clashing =
-          of_clashing items reported.findings old new image tidy since two (at (IsClashing name step checks seed items reported.findings two) clashing)
-
-      of_cut : IsCut name step checks seed items reported.findings before after → IsLeftOf items reported.findings old image
-      of_cut (inl (edits, turns, settled, cut)) = of_first items reported.findings old new image tidy since edits (turns_at edits turns) (settled_at edits settled)
-      of_cut (inr (inl (edits, turns, settled, cut))) =
-          of_first items reported.findings old new image tidy since edits
-          (turns_at edits (first-turns before.disk.told items reported.findings edits turns)) (settled_at edits settled)
-      of_cut (inr (inr (inl (halted, cause, cut)))) = halted_at halted
-      of_cut (inr (inr (inr (two, clashing, cut)))) = clashing_at two clashing
-
-      of_ends : Finishes name step checks seed items reported before after → IsLeftOf items reported.findings old image
-      of_ends (inl whole) =
-          of_first items reported.findings old new image tidy since whole.edits
-          (turns_at whole.edits (first-turns before.disk.told items reported.findings whole.edits whole.turns)) (settled_at whole.edits whole.kept)
-      of_ends (inr (inl unstored)) = halted_at unstored.halted
-      of_ends (inr (inr (inl clashed))) = clashing_at clashed.two clashed.clashing
-      of_ends (inr (inr (inr unwritten))) = of_cut unwritten.cut
-
--- a moment is past
-still-left : (old new : Told) (image : Files) → Some new ≡ Some old → IsImageSince new old.clock image → IsImage (now old) image
-still-left old new image same since =
-    let is : new ≡ old = cc in
-    let here : IsImageSince old old.clock image = subst (λ (t : Told). IsImageSince t old.clock image) is since in
+-- a disk that is as it was is at the same moment
+still-since : (old new : Told) (image : Files) → new ≡ old → IsImageSince new old.clock image → IsImage (now old) image
+still-since old new image same since =
+    let here : IsImageSince old old.clock image = subst (λ (t : Told). IsImageSince t old.clock image) same since in
     let at : here.0 ≡ old.clock = omega (arith, here.1, here.2) in
     subst (λ (t : ℕ). IsImage (old.moments t) image) at here.3
 
-module _ {C : Type 0} (name : C → List ℕ) (step : C → List Choice → Answer → Type 0) (checks : List C) where
-  left_one : (call : Call) (one : Asked) (file : List ℕ) (seed workers : ℕ) (old new : Told) (image : Files) → Alike one (Run file seed workers) →
-      Ends name step checks one call.before call.after call.finish → call.before.disk.told ≡ Some old → call.after.disk.told ≡ Some new → IsTidy pending (now old) →
-      IsImageSince new old.clock image → IsLeftBy name step checks seed call file old image
-  left_one call (Run other seed' workers') file seed workers old new image alike (inl (suite, taken, does)) told telling tidy since =
-      of_left (of_finish name step checks seed' suite.items (reported_of call.finish) (scene_of call.before) (scene_of call.after) old new image told telling tidy since does.0)
-    where
-      of_left : IsLeftOf name step checks seed' suite.items call.finish.findings old image → IsLeftBy name step checks seed call file old image
-      of_left (inl is) = inl is
-      of_left (inr (edits, are, some)) =
-          inr (
-            suite,
-            subst (λ (f : List ℕ). IsTaken (map name checks) call.before.files call.after.files f suite) alike.0 taken,
-            (edits, subst (λ (s : ℕ). AreEditsOf name step checks s (Some old) suite.items call.finish.findings edits) alike.1 are, some),
-          )
-  left_one call (Run other seed' workers') file seed workers old new image alike (inr (said, turned, tells, rests)) told telling tidy since =
-      inl (still-left old new image (sym telling ∙ ap (λ (d : DiskShown). d.told) rests ∙ told) since)
-  left_one call (Replay other wanted list) file seed workers old new image alike ends told telling tidy since = absurd alike
-  left_one call Stored file seed workers old new image alike ends told telling tidy since = absurd alike
-  left_one call (Make seed' count) file seed workers old new image alike ends told telling tidy since = absurd alike
+still-told : (before after : DiskShown) (old new : Told) → after ≡ before → before.told ≡ Some old → after.told ≡ Some new → new ≡ old
+still-told before after old new rests told telling =
+    let same : Some new ≡ Some old = sym telling ∙ ap (λ (d : DiskShown). d.told) rests ∙ told in cc
 
-  pub left : (call : Call) (file : List ℕ) (seed workers : ℕ) (old new : Told) (image : Files) → Answers name step checks call → AsksRun call.words file seed workers →
-      call.before.disk.told ≡ Some old → call.after.disk.told ≡ Some new → IsTidy pending (now old) → IsImageSince new old.clock image →
-      IsLeftBy name step checks seed call file old image
-  left call file seed workers old new image (inl (nothing, tells)) asks told telling tidy since = absurd (nothing (Run file seed workers) asks)
-  left call file seed workers old new image (inr (one, words, ends)) asks told telling tidy since =
-      left_one call one file seed workers old new image (asks_alike call.words one (Run file seed workers) words asks) ends told telling tidy since
+module _ {C : Type 0} (name : C → List ℕ) (step : C → List Choice → Answer → Type 0) (checks : List C) where
+  module _ (seed : ℕ) (findings : List Finding) (start : Told) (image : Files) (items : List ItemTree) where
+    safe : IsMidway name step checks seed items findings start image → IsSafe name step checks seed findings start image items
+    safe midway = record {
+      midway = midway;
+      lost = nothing-lost name step checks seed items findings start image midway;
+      invented = nothing-invented name step checks seed items findings start image midway;
+    }
+
+    left : IsAtExit name step checks seed items findings start image → IsLeft name step checks seed findings start image items
+    left exit = record {
+      exit = exit;
+      kept = exit-kept name step checks seed items findings start image exit;
+      safe = safe (exit-midway name step checks seed items findings start image exit);
+    }
+
+  -- ---- what a call came to that asks for a run
+
+  -- the suite was taken, and its items had their turns; or it was not, and the disk is as it was
+  abbrev CameTo : Call → List ℕ → ℕ → Type 0
+  CameTo call file seed =
+      ((suite : SuiteTree) × IsTaken (map name checks) call.before.files call.after.files file suite
+      × Finishes name step checks seed suite.items (reported_of call.finish) (scene_of call.before) (scene_of call.after))
+      ⊎ ((call.finish.findings ≡ []) × (call.finish.status < 2 → ⊥) × (call.after.disk ≡ call.before.disk))
+
+  came_one : (call : Call) (one : Asked) (file : List ℕ) (seed workers : ℕ) → Alike one (Run file seed workers) →
+      Ends name step checks one call.before call.after call.finish → CameTo call file seed
+  came_one call (Run other seed' workers') file seed workers alike (inl (suite, taken, does)) = inl (
+    suite,
+    subst (λ (f : List ℕ). IsTaken (map name checks) call.before.files call.after.files f suite) alike.0 taken,
+    subst (λ (s : ℕ). Finishes name step checks s suite.items (reported_of call.finish) (scene_of call.before) (scene_of call.after)) alike.1 does.0,
+  )
+  came_one call (Run other seed' workers') file seed workers alike (inr (said, turned, tells, rests)) =
+      inr (tells.findings, λ below. of_told below tells.told, rests)
+    where
+      of_told : call.finish.status < 2 → TellsAll (Refused said) tells.text call.finish call.before.sink call.after.sink
+          ⊎ TellsPart tells.text call.finish call.before.sink call.after.sink → ⊥
+      of_told below (inl all) = not_below said (subst (λ (n : ℕ). n < 2) all.status below)
+      of_told below (inr part) = absurd (omega (arith, part.status, below))
+  came_one call (Replay other wanted list) file seed workers alike ends = absurd alike
+  came_one call Stored file seed workers alike ends = absurd alike
+  came_one call (Make seed' count) file seed workers alike ends = absurd alike
+
+  came : (call : Call) (file : List ℕ) (seed workers : ℕ) → Answers name step checks call → AsksRun call.words file seed workers → CameTo call file seed
+  came call file seed workers (inl (nothing, tells)) asks = absurd (nothing (Run file seed workers) asks)
+  came call file seed workers (inr (one, words, ends)) asks =
+      came_one call one file seed workers (asks_alike call.words one (Run file seed workers) words asks) ends
+
+  stopped : (words : List (String Global)) (before after : Outside) (file : List ℕ) (seed workers : ℕ) → EndsShort name step checks words before after →
+      AsksRun words file seed workers →
+      (suite : SuiteTree) × IsTaken (map name checks) before.files after.files file suite
+      × StoppedShort name step checks seed suite.items (scene_of before) (scene_of after)
+  stopped words before after file seed workers short asks =
+      let alike = asks_alike words (Run short.file short.seed short.workers) (Run file seed workers) short.asks asks in (
+        short.suite,
+        subst (λ (f : List ℕ). IsTaken (map name checks) before.files after.files f short.suite) alike.0 short.taken,
+        subst (λ (s : ℕ). StoppedShort name step checks s short.suite.items (scene_of before) (scene_of after)) alike.1 short.stopped,
+      )
+
+  -- ---- what a crash leaves of it
+
+  module _ (old new : Told) (image : Files) (tidy : IsTidy pending (now old)) where
+    module _ (call : Call) (file : List ℕ) (seed workers : ℕ) (answers : Answers name step checks call) (asks : AsksRun call.words file seed workers)
+        (told : call.before.disk.told ≡ Some old) (telling : call.after.disk.told ≡ Some new) where
+      pub left-since : IsImageSince new old.clock image → IsLeftSince name step checks seed file call.before call.after call.finish.findings old image
+      left-since since = of_came (came call file seed workers answers asks)
+        where
+          of_came : CameTo call file seed → IsLeftSince name step checks seed file call.before call.after call.finish.findings old image
+          of_came (inl (suite, taken, finishes)) = ⊎_elim
+              (λ was. inl was)
+              (λ midway. inr (suite, taken, safe seed call.finish.findings old image suite.items midway))
+              (finished-left name step checks seed suite.items old new image tidy since (scene_of call.before) (scene_of call.after) told telling
+              (reported_of call.finish) finishes)
+          of_came (inr (none, above, rests)) = inl (still-since old new image (still-told call.before.disk call.after.disk old new rests told telling) since)
+
+      pub left-at-exit : IsImage (now new) image → IsLeftAtExit name step checks seed file call.before call.after call.finish.findings old image
+      left-at-exit is = of_came (came call file seed workers answers asks)
+        where
+          of_came : CameTo call file seed → IsLeftAtExit name step checks seed file call.before call.after call.finish.findings old image
+          of_came (inl (suite, taken, finishes)) = ⊎_elim
+              (λ was. inl was)
+              (λ exit. inr (suite, taken, left seed call.finish.findings old image suite.items exit))
+              (finished-exit name step checks seed suite.items old new image tidy is (scene_of call.before) (scene_of call.after) told telling
+              (reported_of call.finish) finishes)
+          of_came (inr (none, above, rests)) =
+              let same = still-told call.before.disk call.after.disk old new rests told telling in
+              inl (none, subst (λ (t : Told). IsImage (now t) image) same is)
+
+      pub left-at-end : call.finish.status < 2 → IsImage (now new) image →
+          IsLeftAtEnd name step checks seed file call.before call.after call.finish.findings old image
+      left-at-end below is = of_came (came call file seed workers answers asks)
+        where
+          of_came : CameTo call file seed → IsLeftAtEnd name step checks seed file call.before call.after call.finish.findings old image
+          of_came (inl (suite, taken, finishes)) = (
+            suite,
+            taken,
+            finished-end name step checks seed suite.items old new image tidy is (scene_of call.before) (scene_of call.after) told telling
+                (reported_of call.finish) finishes below,
+          )
+          of_came (inr (none, above, rests)) = absurd (above below)
+
+    module _ (words : List (String Global)) (before after : Outside) (file : List ℕ) (seed workers : ℕ) (short : EndsShort name step checks words before after)
+        (asks : AsksRun words file seed workers) (told : before.disk.told ≡ Some old) (telling : after.disk.told ≡ Some new) where
+      pub short-since : IsImageSince new old.clock image → IsImage (now old) image
+          ⊎ ((findings : List Finding) × AreWritten findings before.sink.bytes after.sink.bytes
+          × OfTaken name step checks file before after (IsSafe name step checks seed findings old image))
+      short-since since =
+          let (suite, taken, stops) = stopped words before after file seed workers short asks in
+          ⊎_elim
+          (λ was. inl was)
+          (λ (findings, written, midway). inr (findings, written, (suite, taken, safe seed findings old image suite.items midway)))
+          (stopped-left name step checks seed suite.items old new image tidy since (scene_of before) (scene_of after) told telling stops)
+
+      pub short-at-exit : IsImage (now new) image → (findings : List Finding) × AreWritten findings before.sink.bytes after.sink.bytes
+          × OfTaken name step checks file before after (IsLeft name step checks seed findings old image)
+      short-at-exit is =
+          let (suite, taken, stops) = stopped words before after file seed workers short asks in
+          let (findings, written, exit) =
+          stopped-exit name step checks seed suite.items old new image tidy is (scene_of before) (scene_of after) told telling stops in
+          (findings, written, (suite, taken, left seed findings old image suite.items exit))

@@ -28,7 +28,7 @@ use Rattle.pt_run.proofs.Messages.{HasBytes-some}
 use Rattle.pt_run.proofs.Replaying.{some_of}
 
 -- no refusal has a status below 2
-not_below : (said : Refusal) → refusal_status said < 2 → ⊥
+pub not_below : (said : Refusal) → refusal_status said < 2 → ⊥
 not_below refusal.Usage below = absurd (omega (arith, below))
 not_below (refusal.Suite at which) below = absurd (omega (arith, below))
 not_below refusal.Read below = absurd (omega (arith, below))

@@ -1,10 +1,11 @@
 //! What follows of every call of `top`. These functions do nothing: their contracts are the laws.
 
-ghost use Rattle.std.specs.Prelude.{◌≡◌, ◌<◌, ℕ, Bool, List, [], Contains, IsSome, Some, map};
+ghost use Rattle.std.specs.Prelude.{◌≡◌, ◌⊎◌, ◌<◌, ℕ, Bool, List, [], Contains, IsSome, Some, String, map};
+ghost use Rattle.std.specs.declared.alloc.Global.{Global};
 ghost use Rattle.pt_ast.specs.Trees.{SuiteTree};
 ghost use Rattle.pt_case.specs.declared.record.Record.{Record};
 ghost use Rattle.pt_disk.specs.Files.{Files};
-ghost use Rattle.pt_disk.specs.Folder.{reads};
+ghost use Rattle.pt_disk.specs.Folder.{reads, IsImage};
 ghost use Rattle.pt_disk.specs.Leaves.{IsTidy};
 ghost use Rattle.pt_disk.specs.Moments.{Told, now, IsImageSince};
 ghost use Rattle.pt_found.specs.declared.finding.Finding.{Finding};
@@ -14,7 +15,10 @@ ghost use Rattle.pt_io.specs.Files.{IsSame};
 ghost use Rattle.pt_run.specs.Call.{Call, Answers, IsQuiet, IsDone, IsRunnable, AsksAgain, Replays};
 ghost use Rattle.pt_stored.specs.Stored.{SameStored, pending};
 ghost use Rattle.pt_turns.specs.Agree.{AgreeWhereOwn};
-ghost use Rattle.pt_run.specs.Crash.{IsLeftBy};
+ghost use Rattle.pt_turns.specs.Blocks.{AreWritten};
+ghost use Rattle.pt_run.specs.Crash.{OfTaken, IsSafe, IsLeft, IsLeftSince, IsLeftAtExit, IsLeftAtEnd};
+ghost use Rattle.pt_run.specs.Ends.{EndsShort};
+ghost use Rattle.pt_run.specs.Outside.{Outside};
 ghost use Rattle.pt_run.specs.Suite.{HaveOwnNames, IsTaken};
 ghost use Rattle.pt_run.specs.Words.{Asked, Asks, AsksRun};
 
@@ -66,12 +70,35 @@ pub fn workers_change_no_finding<C: Check>(checks: &[C])
     pt_turns::workers_change_no_finding(checks);
 }
 
-/// What a crash leaves of a run on a disk that tells and was tidy at the start, whatever the run came to: at each moment since then it is
-/// what a crash might have left at the start, or it stores what was stored then after some first ones of the edits of the turns.
+/// What a crash leaves of a run on a disk that tells and was tidy at the start, whatever the run came to, and after want of memory. At each moment since
+/// the start it is what a crash might have left then, or it stores what was stored then after some first ones of the edits of the turns, and nothing is lost and nothing invented.
+/// At the exit it has all edits of the turns of the findings, and each failure that was shown, and with status 0 or 1 it is what was stored after all turns.
 pub fn what_survives_a_crash<C: Check>(checks: &[C])
-    ensures { (call : Call) (file : List ℕ) (seed workers : ℕ) (old new : Told) (image : Files)
+    ensures since { (call : Call) (file : List ℕ) (seed workers : ℕ) (old new : Told) (image : Files)
         → Answers C.name C.step checks.now call → AsksRun call.words file seed workers
         → call.before.disk.told ≡ Some old → call.after.disk.told ≡ Some new
         → IsTidy pending (now old) → IsImageSince new old.clock image
-        → IsLeftBy C.name C.step checks.now seed call file old image }
+        → IsLeftSince C.name C.step checks.now seed file call.before call.after call.finish.findings old image }
+    ensures exit { (call : Call) (file : List ℕ) (seed workers : ℕ) (old new : Told) (image : Files)
+        → Answers C.name C.step checks.now call → AsksRun call.words file seed workers
+        → call.before.disk.told ≡ Some old → call.after.disk.told ≡ Some new
+        → IsTidy pending (now old) → IsImage (now new) image
+        → IsLeftAtExit C.name C.step checks.now seed file call.before call.after call.finish.findings old image }
+    ensures end { (call : Call) (file : List ℕ) (seed workers : ℕ) (old new : Told) (image : Files)
+        → Answers C.name C.step checks.now call → AsksRun call.words file seed workers → call.finish.status < 2
+        → call.before.disk.told ≡ Some old → call.after.disk.told ≡ Some new
+        → IsTidy pending (now old) → IsImage (now new) image
+        → IsLeftAtEnd C.name C.step checks.now seed file call.before call.after call.finish.findings old image }
+    ensures short_since { (words : List (String Global)) (before after : Outside) (file : List ℕ) (seed workers : ℕ) (old new : Told) (image : Files)
+        → EndsShort C.name C.step checks.now words before after → AsksRun words file seed workers
+        → before.disk.told ≡ Some old → after.disk.told ≡ Some new
+        → IsTidy pending (now old) → IsImageSince new old.clock image
+        → IsImage (now old) image ⊎ ((findings : List Finding) × AreWritten findings before.sink.bytes after.sink.bytes
+        × OfTaken C.name C.step checks.now file before after (IsSafe C.name C.step checks.now seed findings old image)) }
+    ensures short_exit { (words : List (String Global)) (before after : Outside) (file : List ℕ) (seed workers : ℕ) (old new : Told) (image : Files)
+        → EndsShort C.name C.step checks.now words before after → AsksRun words file seed workers
+        → before.disk.told ≡ Some old → after.disk.told ≡ Some new
+        → IsTidy pending (now old) → IsImage (now new) image
+        → (findings : List Finding) × AreWritten findings before.sink.bytes after.sink.bytes
+        × OfTaken C.name C.step checks.now file before after (IsLeft C.name C.step checks.now seed findings old image) }
 {}

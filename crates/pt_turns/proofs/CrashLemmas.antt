@@ -22,8 +22,6 @@ use Rattle.pt_turns.specs.Scene.{Scene}
 use Rattle.pt_turns.specs.Turns.{AreTurns, FirstTurns}
 use Rattle.pt_turns.specs.declared.reporting.Reported.{Reported}
 use Rattle.pt_turns.proofs.TurnsLemmas.{first-of-all}
-use Rattle.pt_edits.proofs.UnderLemmas.{edits-under}
-use Rattle.pt_turns.specs.Turn.{digest_of}
 
 module _ {C : Type 0} (name : C → List ℕ) (step : C → List Choice → Answer → Type 0) (checks : List C) (seed : ℕ) (items : List ItemTree)
     (start end : Told) (image : Files) (tidy : IsTidy pending (now start)) (since : IsImageSince end start.clock image) where
@@ -46,7 +44,7 @@ module _ {C : Type 0} (name : C → List ℕ) (step : C → List Choice → Answ
 
   -- and some of the next item's
   partly-left : (findings : List Finding) (edits more : List PairEdit) → FirstTurns name step checks seed (Some start) items findings edits →
-      AreOfNext items findings more → SettledAnd edits more (Some start) (Some end) → Left findings
+      AreOfNext name step checks seed items (Some start) findings edits more → SettledAnd edits more (Some start) (Some end) → Left findings
   partly-left findings edits more turns of (None, settled, made) = absurd settled
   partly-left findings edits more turns of (Some mid, settled, made) = ⊎_elim
       (λ was. inl was)
@@ -59,9 +57,8 @@ module _ {C : Type 0} (name : C → List ℕ) (step : C → List Choice → Answ
 
   clashing-left : (findings : List Finding) (two : TwoValues) → IsClashing name step checks seed items findings two (Some start) (Some end) → Left findings
   clashing-left findings two clashing =
-      let turn = clashing.turn in
-      let under = edits-under (digest_of clashing.next) turn.readings clashing.finding.verdict clashing.finding.failing clashing.more turn.edited in
-      partly-left findings clashing.edits clashing.more clashing.turns (inr (clashing.next, clashing.stands, under)) clashing.kept
+      let partly = clashing.partly in
+      partly-left findings partly.edits partly.more partly.turns partly.of_next partly.kept
 
   module _ (old new : Scene) (from : old.disk.told ≡ Some start) (to : new.disk.told ≡ Some end) where
     cut-left : (findings : List Finding) → IsCut name step checks seed items findings old new → Left findings

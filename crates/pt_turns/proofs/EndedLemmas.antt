@@ -15,20 +15,19 @@ use Rattle.pt_io.specs.Sink.{Appends, AppendsPart}
 use Rattle.pt_report.specs.Report.{IsBlock}
 use Rattle.pt_db.proofs.Telling.{rests-none}
 use Rattle.pt_edits.specs.Made.{Made}
-use Rattle.pt_edits.specs.Pairs.{PairEdit, AreUnder}
+use Rattle.pt_edits.specs.Pairs.{PairEdit}
 use Rattle.pt_edits.specs.declared.stop.StoreStop.{StoreStop}
 use Rattle.pt_edits.specs.declared.stop.StoreStop.TheVariants as stop
 use Rattle.pt_edits.specs.declared.stop.TwoValues.{TwoValues}
 use Rattle.pt_edits.proofs.MadeLemmas.{both-made-none, both-made-then, both-made-some}
-use Rattle.pt_edits.proofs.UnderLemmas.{edits-under}
 use Rattle.pt_turns.specs.declared.turns.Turned.TheVariants.{All, Cut, Failed, Clashed}
 use Rattle.pt_turns.specs.Blocks.{AreWritten}
-use Rattle.pt_turns.specs.Ended.{StopsIn, Halfway, HalfwayToClash, Ended, EndedShort}
+use Rattle.pt_turns.specs.Ended.{AreOfTurn, StopsIn, AreOfNext, Halfway, HalfwayToClash, Ended, EndedShort}
 use Rattle.pt_turns.specs.Scene.{DiskShown, Scene}
-use Rattle.pt_turns.specs.Turn.{Turn, digest_of}
+use Rattle.pt_turns.specs.Turn.{Turn}
 use Rattle.pt_turns.specs.Turns.{AreTurns}
 use Rattle.pt_turns.proofs.BlockLemmas.{none-written, written-more, last-cut}
-use Rattle.pt_turns.proofs.OnwardLemmas.{onward-made, turn-onward, clash-onward}
+use Rattle.pt_turns.proofs.OnwardLemmas.{onward-made, turn-onward, of-turn-onward, clash-onward}
 use Rattle.pt_turns.proofs.TurnsLemmas.{next-turns, all-turns}
 
 -- what a call says of its answer, by the answer
@@ -108,15 +107,26 @@ module _ {C : Type 0} (name : C → List ℕ) (step : C → List Choice → Answ
           quiet = quiet ∙ so.quiet;
         }
 
+    -- the edits of the next item's turn are those after the turns so far
+    next-of : (findings : List Finding) (more : List PairEdit) (old mid : DiskShown) (so : HaveTurned count findings old mid) →
+        AreOfTurn name step checks seed mid.told [] (plain_item item) more →
+        AreOfNext name step checks seed (map plain_item items) old.told findings so.edits more
+    next-of findings more old mid so of =
+        let P : List PairEdit → Type 0 = λ done. AreOfTurn name step checks seed old.told done (plain_item item) more in
+        let onward = onward-made so.edits old.told mid.told so.made in
+        let its = subst P (append-nil so.edits)
+        (of-turn-onward name step checks seed so.edits [] old.told mid.told (plain_item item) more onward of) in
+        inr (plain_item item, next-stands findings so.counted, its)
+
     -- some edits of the next item
-    pub halfway-more : (findings : List Finding) (more : List PairEdit) (old mid last : DiskShown) → HaveTurned count findings old mid →
-        AreUnder (digest_of (plain_item item)) more → BothTell (Made more false) mid.told last.told →
+    abbrev halfway-more : (findings : List Finding) (more : List PairEdit) (old mid last : DiskShown) → HaveTurned count findings old mid →
+        AreOfTurn name step checks seed mid.told [] (plain_item item) more → BothTell (Made more false) mid.told last.told →
         Halfway name step checks seed (map plain_item items) findings old.told last.told
-    halfway-more findings more old mid last so under partly = record {
+    halfway-more findings more old mid last so of partly = record {
       edits = so.edits;
       turns = rw so.counted so.turns;
       more = more;
-      of_next = inr (plain_item item, next-stands findings so.counted, under);
+      of_next = next-of findings more old mid so of;
       mid = mid.told;
       made = so.made;
       partly = partly;
@@ -147,27 +157,13 @@ module _ {C : Type 0} (name : C → List ℕ) (step : C → List Choice → Answ
         StopsIn name step checks seed (plain_item item) mid.disk.told new.disk.told (stop.Clash two) → new.disk.faults ≡ mid.disk.faults →
         new.sink ≡ mid.sink → Ended name step checks seed (map plain_item items) (Clashed findings two) old new
     clash-ended findings two old mid new so stops quiet same =
-        let turned = so.turned in
-        let done = turned.edits in
-        let from = old.disk.told in
-        let onward = onward-made done from mid.disk.told turned.made in
-        let P : List PairEdit → Type 0 = λ done. Turn name step checks seed from done (plain_item item) stops.0 stops.1 in
-        let its = subst P (append-nil done) (turn-onward name step checks seed done [] from mid.disk.told (plain_item item) stops.0 stops.1 onward stops.2) in
-        let clash = clash-onward done [] stops.1 two from mid.disk.told onward stops.5 in
-        let halfway : HalfwayToClash name step checks seed (map plain_item items) findings two from new.disk.told = record {
-          edits = done;
-          turns = rw turned.counted turned.turns;
-          next = plain_item item;
-          stands = next-stands findings turned.counted;
-          finding = stops.0;
-          more = stops.1;
-          turn = its;
+        let done = so.turned.edits in
+        let clash = clash-onward done [] stops.0 two old.disk.told mid.disk.told (onward-made done old.disk.told mid.disk.told so.turned.made) stops.3 in
+        let halfway : HalfwayToClash name step checks seed (map plain_item items) findings two old.disk.told new.disk.told = record {
+          half = halfway-more findings stops.0 old.disk mid.disk new.disk so.turned stops.1 stops.2;
           clash = rw append-nil at clash;
-          mid = mid.disk.told;
-          made = turned.made;
-          partly = stops.4;
         } in
-        (halfway, rw same so.written, rw same so.quiet, quiet ∙ turned.quiet)
+        (halfway, rw same so.written, rw same so.quiet, quiet ∙ so.turned.quiet)
 
     module _ (findings new : List Finding) (finding : Finding) (edits : List PairEdit) (old mid : Scene) (so : SoFar count findings old mid)
         (turn : Turn name step checks seed mid.disk.told [] (plain_item item) finding edits) where
@@ -184,9 +180,7 @@ module _ {C : Type 0} (name : C → List ℕ) (step : C → List Choice → Answ
       pub push-ended : (last : Scene) → BothTell (Made edits true) mid.disk.told last.disk.told → last.disk.faults ≡ mid.disk.faults →
           last.sink ≡ mid.sink → EndedShort name step checks seed (map plain_item items) old last
       push-ended last made quiet same =
-          let digest = digest_of (plain_item item) in
-          let under = edits-under digest turn.readings finding.verdict finding.failing edits turn.edited in
-          memory-ended findings old mid last so (edits, under, both-made-some edits mid.disk.told last.disk.told made) quiet same
+          memory-ended findings old mid last so (edits, inr (finding, turn), both-made-some edits mid.disk.told last.disk.told made, tt) quiet same
 
       -- a first part of it is
       pub cut-ended : (last : Scene) (block : List ℕ) → new ≡ findings ++ finding ∷ [] → BothTell (Made edits true) mid.disk.told last.disk.told → last.disk.faults ≡ mid.disk.faults →

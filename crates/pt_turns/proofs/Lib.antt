@@ -1,15 +1,18 @@
 mod AgreeLemmas
 mod BlockLemmas
 mod CountLemmas
-mod CrashLemmas
+pub mod CrashLemmas
 mod EndedLemmas
 mod ExaminedLemmas
+pub mod ExitLemmas
 mod FinishLemmas
 mod KeptLemmas
 mod OnwardLemmas
 mod OwnLemmas
 mod ReadyLemmas
+mod ReasonLemmas
 mod SameReadings
 mod SettledLemmas
+pub mod SoundLemmas
 mod TurningLemmas
 mod TurnsLemmas

@@ -1,5 +1,5 @@
 -- What is said of a moment, said from an earlier one: the edits in between are done then.
-use Rattle.std.proofs.Common.{ℕ, true, List, [], ◌∷◌, ◌++◌, Option, Some, None, refl, sym, subst, append_assoc}
+use Rattle.std.proofs.Common.{inl, inr, ℕ, true, List, [], ◌∷◌, ◌++◌, Option, Some, None, refl, sym, subst, append_assoc}
 use Rattle.std.specs.Prelude.{◌↔◌, IfSome}
 use Rattle.pt_choice.specs.declared.choice.Choice.{Choice}
 use Rattle.pt_case.specs.Step.{Answer}
@@ -12,14 +12,17 @@ use Rattle.pt_disk.specs.Calls.{Rests}
 use Rattle.pt_stored.specs.Stored.{IsStored}
 use Rattle.pt_db.specs.Attaching.{Attached}
 use Rattle.pt_db.proofs.Telling.{both-weaker}
-use Rattle.pt_edits.specs.Clash.{IsClashIn}
+use Rattle.pt_edits.specs.Clash.{IsClashIn, ClashesIn}
 use Rattle.pt_edits.specs.Made.{Made}
 use Rattle.pt_edits.specs.Pairs.{PairEdit, after_all, digest_of, IsAfter}
 use Rattle.pt_edits.specs.Readings.{AreOfKey}
 use Rattle.pt_edits.specs.declared.reading.Reading.{Reading}
+use Rattle.pt_edits.specs.declared.stop.StoreStop.{StoreStop}
+use Rattle.pt_edits.specs.declared.stop.StoreStop.TheVariants.{Failed, Clash, NoMemory}
 use Rattle.pt_edits.specs.declared.stop.TwoValues.{TwoValues}
 use Rattle.pt_edits.proofs.MadeLemmas.{after-settle, both-made-none}
 use Rattle.pt_edits.proofs.SetLemmas.{after-all-same, after-all-append}
+use Rattle.pt_turns.specs.Ended.{AreOfTurn, AreOfNext}
 use Rattle.pt_turns.specs.Turn.{Turn, digest_of as turn_digest}
 use Rattle.pt_turns.specs.Turns.{AreTurnsAfter}
 
@@ -82,6 +85,11 @@ clash-onward done more edits two old mid onward clash =
       kept = subst P (sym (append_assoc done more clash.made)) kept;
     }
 
+pub clashes-onward : (edits : List PairEdit) (old mid : Option Told) (stop : StoreStop) → IsOnward [] old mid → ClashesIn edits mid stop → ClashesIn edits old stop
+clashes-onward edits old mid Failed onward clash = tt
+clashes-onward edits old mid (Clash two) onward clash = clash-onward [] [] edits two old mid onward clash
+clashes-onward edits old mid NoMemory onward clash = tt
+
 module _ {C : Type 0} (name : C → List ℕ) (step : C → List Choice → Answer → Type 0) (checks : List C) (seed : ℕ) where
   pub turn-onward : (done more : List PairEdit) (old mid : Option Told) (item : ItemTree) (finding : Finding) (edits : List PairEdit) →
       IsOnward done old mid → Turn name step checks seed mid more item finding edits → Turn name step checks seed old (done ++ more) item finding edits
@@ -93,6 +101,19 @@ module _ {C : Type 0} (name : C → List ℕ) (step : C → List Choice → Answ
     examined = turn.examined;
     edited = turn.edited;
   }
+
+  pub of-turn-onward : (done more : List PairEdit) (old mid : Option Told) (item : ItemTree) (edits : List PairEdit) → IsOnward done old mid →
+      AreOfTurn name step checks seed mid more item edits → AreOfTurn name step checks seed old (done ++ more) item edits
+  of-turn-onward done more old mid item edits onward (inl none) = inl none
+  of-turn-onward done more old mid item edits onward (inr (finding, turn)) =
+      inr (finding, turn-onward done more old mid item finding edits onward turn)
+
+  pub of-next-onward : (done more : List PairEdit) (old mid : Option Told) (items : List ItemTree) (findings : List Finding) (edits : List PairEdit) →
+      IsOnward done old mid → AreOfNext name step checks seed items mid findings more edits →
+      AreOfNext name step checks seed items old findings (done ++ more) edits
+  of-next-onward done more old mid items findings edits onward (inl none) = inl none
+  of-next-onward done more old mid items findings edits onward (inr (next, stands, of)) =
+      inr (next, stands, of-turn-onward done more old mid next edits onward of)
 
   pub turns-onward : (more : List PairEdit) (old mid : Option Told) (items : List ItemTree) (findings : List Finding) (all : List PairEdit) →
       IsOnward [] old mid → AreTurnsAfter name step checks seed mid more items findings all → AreTurnsAfter name step checks seed old more items findings all

@@ -18,34 +18,27 @@ use Rattle.pt_turns.specs.Finishes.{PartlyDone, IsClashing, StoppedShort}
 use Rattle.pt_turns.specs.Scene.{Scene, scene}
 use Rattle.pt_turns.specs.Settling.{EndedSettled}
 use Rattle.pt_turns.proofs.BlockLemmas.{none-written}
-use Rattle.pt_turns.proofs.OnwardLemmas.{onward-attached, turn-onward, turns-onward, clash-onward}
+use Rattle.pt_turns.proofs.OnwardLemmas.{onward-attached, turns-onward, of-next-onward, clash-onward}
 
 module _ {C : Type 0} (name : C → List ℕ) (step : C → List Choice → Answer → Type 0) (checks : List C) (seed : ℕ) (items : List ItemTree) where
   module _ (old mid new : Option Told) (attached : BothTell (Attached true) old mid) where
-    partly-settled : (findings : List Finding) → Halfway name step checks seed items findings mid new → PartlyDone name step checks seed items findings old new
-    partly-settled findings half = record {
-      edits = half.edits;
-      turns = turns-onward name step checks seed [] old mid _ findings half.edits (onward-attached old mid attached) half.turns;
-      more = half.more;
-      of_next = half.of_next;
-      kept = (half.mid, both-settled-of half.edits true old mid half.mid attached half.made, half.partly);
-    }
-
-    clash-settled : (findings : List Finding) (two : TwoValues) → HalfwayToClash name step checks seed items findings two mid new →
-        IsClashing name step checks seed items findings two old new
-    clash-settled findings two half =
+    abbrev partly-settled : (findings : List Finding) → Halfway name step checks seed items findings mid new → PartlyDone name step checks seed items findings old new
+    partly-settled findings half =
         let onward = onward-attached old mid attached in
         record {
           edits = half.edits;
           turns = turns-onward name step checks seed [] old mid _ findings half.edits onward half.turns;
-          next = half.next;
-          stands = half.stands;
-          finding = half.finding;
           more = half.more;
-          turn = turn-onward name step checks seed [] half.edits old mid half.next half.finding half.more onward half.turn;
-          clash = clash-onward [] half.edits half.more two old mid onward half.clash;
+          of_next = of-next-onward name step checks seed [] half.edits old mid items findings half.more onward half.of_next;
           kept = (half.mid, both-settled-of half.edits true old mid half.mid attached half.made, half.partly);
         }
+
+    clash-settled : (findings : List Finding) (two : TwoValues) → HalfwayToClash name step checks seed items findings two mid new →
+        IsClashing name step checks seed items findings two old new
+    clash-settled findings two clashing = record {
+      partly = partly-settled findings clashing.half;
+      clash = clash-onward [] clashing.half.edits clashing.half.more two old mid (onward-attached old mid attached) clashing.clash;
+    }
 
   module _ (old mid new : Scene) (attached : BothTell (Attached true) old.disk.told mid.disk.told) (quiet : mid.disk.faults ≡ old.disk.faults)
       (same : mid.sink ≡ old.sink) where

@@ -1,5 +1,5 @@
 -- One item's turn, by the calls that it makes.
-use Rattle.std.proofs.Common.{◌≡◌, ℕ, Bool, true, false, List, [], ◌∷◌, map, Option, Result, Err, refl, subst}
+use Rattle.std.proofs.Common.{◌≡◌, inl, inr, ℕ, Bool, true, false, List, [], map, Option, Result, Err, refl, subst}
 use Rattle.std.specs.Prelude.{All, IfSome, IfErr}
 use Rattle.pt_choice.specs.declared.choice.Choice.{Choice}
 use Rattle.pt_case.specs.Step.{Answer}
@@ -9,12 +9,11 @@ use Rattle.pt_disk.specs.Folder.{reads}
 use Rattle.pt_disk.specs.Moments.{Told, now, BothTell}
 use Rattle.pt_stored.specs.Stored.{IsStored}
 use Rattle.pt_found.specs.declared.finding.Finding.{Finding}
-use Rattle.pt_edits.specs.Clash.{IsClashIn, ClashesIn, IsNoClash}
+use Rattle.pt_edits.specs.Clash.{ClashesIn, IsNoClash}
 use Rattle.pt_edits.specs.Made.{Made}
-use Rattle.pt_edits.specs.Pairs.{PairEdit, AreUnder, under}
+use Rattle.pt_edits.specs.Pairs.{PairEdit, under}
 use Rattle.pt_edits.specs.Readings.{AreOfKey, AreInFileOrder, IsSpelled, AreEdits, lists_of}
 use Rattle.pt_edits.specs.declared.edit.Edit.{Edit}
-use Rattle.pt_edits.specs.declared.edit.Edit.TheVariants.{Save, Delete}
 use Rattle.pt_edits.specs.declared.reading.Reading.{Reading}
 use Rattle.pt_edits.specs.declared.stop.StoreStop.{StoreStop}
 use Rattle.pt_edits.specs.declared.stop.StoreStop.TheVariants.{Failed, Clash, NoMemory}
@@ -22,13 +21,7 @@ use Rattle.pt_edits.proofs.MadeLemmas.{both-made-none, both-made-then}
 use Rattle.pt_turns.specs.Ended.{StopsIn}
 use Rattle.pt_turns.specs.Examined.{Examined}
 use Rattle.pt_turns.specs.Turn.{Turn, digest_of}
-use Rattle.pt_turns.proofs.OnwardLemmas.{onward-rests, clash-onward}
-
--- edits under a key are under its digest
-under-digest : (digest : List ℕ) (edits : List Edit) → AreUnder digest (map (under digest) edits)
-under-digest digest [] = tt
-under-digest digest (Save bytes ∷ edits) = (refl, under-digest digest edits)
-under-digest digest (Delete bytes ∷ edits) = (refl, under-digest digest edits)
+use Rattle.pt_turns.proofs.OnwardLemmas.{onward-rests, clashes-onward}
 
 -- edits that were made after a call that reads
 pub made-after-reading : (edits : List PairEdit) (ok : Bool) (old mid new : Option Told) → Rests old mid → BothTell (Made edits ok) mid new →
@@ -42,10 +35,10 @@ err-holds result P why is holds = rw is holds
 module _ {C : Type 0} (name : C → List ℕ) (step : C → List Choice → Answer → Type 0) (checks : List C) (seed : ℕ) (item : ItemTree) where
   -- nothing was edited
   pub memory-stop : (old new : Option Told) → Rests old new → StopsIn name step checks seed item old new NoMemory
-  memory-stop old new rests = ([], tt, both-made-none false old new rests)
+  memory-stop old new rests = ([], inl refl, both-made-none false old new rests, tt)
 
   pub reading-stop : (old new : Option Told) (stop : StoreStop) → IsNoClash stop → Rests old new → StopsIn name step checks seed item old new stop
-  reading-stop old new Failed none rests = ([], tt, both-made-none false old new rests)
+  reading-stop old new Failed none rests = ([], inl refl, both-made-none false old new rests, tt)
   reading-stop old new (Clash two) none rests = absurd none
   reading-stop old new NoMemory none rests = memory-stop old new rests
 
@@ -80,17 +73,11 @@ module _ {C : Type 0} (name : C → List ℕ) (step : C → List Choice → Answ
         Turn name step checks seed old [] item finding (map (under (digest_of item)) edits) →
         BothTell (Made (map (under digest) edits) false) mid new → ClashesIn (map (under digest) edits) mid stop →
         StopsIn name step checks seed item old new stop
-    making-stop finding edits old mid new Failed rests turn made clash =
-        (map (under (digest_of item)) edits, under-digest (digest_of item) edits, turn-made edits false old mid new rests made)
-    making-stop finding edits old mid new (Clash two) rests turn made clash =
+    making-stop finding edits old mid new stop rests turn made clash =
         let all = map (under (digest_of item)) edits in
-        let P : List ℕ → Type 0 = λ digest. IsClashIn [] (map (under digest) edits) mid two in (
-          finding,
+        let P : List ℕ → Type 0 = λ digest. ClashesIn (map (under digest) edits) mid stop in (
           all,
-          turn,
-          under-digest (digest_of item) edits,
+          inr (finding, turn),
           turn-made edits false old mid new rests made,
-          clash-onward [] [] all two old mid (onward-rests old mid rests) (subst P same clash),
+          clashes-onward all old mid stop (onward-rests old mid rests) (subst P same clash),
         )
-    making-stop finding edits old mid new NoMemory rests turn made clash =
-        (map (under (digest_of item)) edits, under-digest (digest_of item) edits, turn-made edits false old mid new rests made)

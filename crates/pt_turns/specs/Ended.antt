@@ -6,58 +6,49 @@ use Rattle.pt_case.specs.Step.{Answer}
 use Rattle.pt_ast.specs.Trees.{ItemTree}
 use Rattle.pt_disk.specs.Moments.{Told, BothTell}
 use Rattle.pt_found.specs.declared.finding.Finding.{Finding}
-use Rattle.pt_edits.specs.Clash.{IsClashIn}
+use Rattle.pt_edits.specs.Clash.{IsClashIn, ClashesIn}
 use Rattle.pt_edits.specs.Made.{Made}
-use Rattle.pt_edits.specs.Pairs.{PairEdit, AreUnder}
+use Rattle.pt_edits.specs.Pairs.{PairEdit}
 use Rattle.pt_edits.specs.declared.stop.StoreStop.{StoreStop}
-use Rattle.pt_edits.specs.declared.stop.StoreStop.TheVariants as stop
 use Rattle.pt_edits.specs.declared.stop.TwoValues.{TwoValues}
 use Rattle.pt_turns.specs.declared.turns.Turned.{Turned}
 use Rattle.pt_turns.specs.declared.turns.Turned.TheVariants.{All, Cut, Failed, Clashed}
 use Rattle.pt_turns.specs.Blocks.{AreWritten, IsLastCut}
 use Rattle.pt_turns.specs.Scene.{Scene}
-use Rattle.pt_turns.specs.Turn.{Turn, digest_of}
+use Rattle.pt_turns.specs.Turn.{Turn}
 use Rattle.pt_turns.specs.Turns.{AreTurns, FirstTurns}
 
--- these edits are none, or of the item after those of the findings
-abbrev pub AreOfNext : List ItemTree → List Finding → List PairEdit → Type 0
-AreOfNext items findings more =
-    (more ≡ []) ⊎ ((next : ItemTree) × (slice_get items (length findings) ≡ Some next) × AreUnder (digest_of next) more)
-
 module _ {C : Type 0} (name : C → List ℕ) (step : C → List Choice → Answer → Type 0) (checks : List C) (seed : ℕ) where
-  -- An item's turn stopped: of some edits under its name all or some first ones were made. Where two values clash, they are the edits of its
-  -- turn.
+  -- these edits are none, or those of a turn of the item, on a disk that stored this before the edits that were done
+  abbrev pub AreOfTurn : Option Told → List PairEdit → ItemTree → List PairEdit → Type 0
+  AreOfTurn told done item edits = (edits ≡ []) ⊎ ((finding : Finding) × Turn name step checks seed told done item finding edits)
+
+  -- An item's turn stopped: of its edits all or some first ones were made. Where two values clash, they do in these edits.
   abbrev pub StopsIn : ItemTree → Option Told → Option Told → StoreStop → Type 0
-  StopsIn item old new (stop.Clash two) =
-      (finding : Finding) × (edits : List PairEdit) × Turn name step checks seed old [] item finding edits × AreUnder (digest_of item) edits
-      × BothTell (Made edits false) old new × IsClashIn [] edits old two
-  StopsIn item old new other = (edits : List PairEdit) × AreUnder (digest_of item) edits × BothTell (Made edits false) old new
+  StopsIn item old new why =
+      (edits : List PairEdit) × AreOfTurn old [] item edits × BothTell (Made edits false) old new × ClashesIn edits old why
 
   module _ (items : List ItemTree) where
+    -- these edits are none, or those of the turn of the item after those of the findings, whose turns made the edits that were done
+    abbrev pub AreOfNext : Option Told → List Finding → List PairEdit → List PairEdit → Type 0
+    AreOfNext told findings done more =
+        (more ≡ []) ⊎ ((next : ItemTree) × (slice_get items (length findings) ≡ Some next) × AreOfTurn told done next more)
+
     -- The first items had their turns, as many as there are findings, and all their edits were made. Of the next item's edits all or some
     -- first ones were made.
     pub record Halfway (findings : List Finding) (old new : Option Told) : Type 0 where
       pub edits : List PairEdit
       pub turns : FirstTurns name step checks seed old items findings edits
       pub more : List PairEdit
-      pub of_next : AreOfNext items findings more
+      pub of_next : AreOfNext old findings edits more
       pub mid : Option Told
       pub made : BothTell (Made edits true) old mid
       pub partly : BothTell (Made more false) mid new
 
-    -- The same, and two values clash in the edits of the next item's turn.
+    -- The same, and two values clash in the next item's edits.
     pub record HalfwayToClash (findings : List Finding) (two : TwoValues) (old new : Option Told) : Type 0 where
-      pub edits : List PairEdit
-      pub turns : FirstTurns name step checks seed old items findings edits
-      pub next : ItemTree
-      pub stands : slice_get items (length findings) ≡ Some next
-      pub finding : Finding
-      pub more : List PairEdit
-      pub turn : Turn name step checks seed old edits next finding more
-      pub clash : IsClashIn edits more old two
-      pub mid : Option Told
-      pub made : BothTell (Made edits true) old mid
-      pub partly : BothTell (Made more false) mid new
+      pub half : Halfway findings old new
+      pub clash : IsClashIn half.edits half.more old two
 
     -- All items had their turns, and each block is written; or the output failed in the block of the last finding, and no later item
     -- had its turn; or the disk failed in the next item's turn, or two values clash there, and the blocks so far are written.

@@ -1,5 +1,5 @@
 -- What a run over some items comes to.
-use Rattle.std.specs.Prelude.{◌≡◌, ◌⊎◌, ℕ, Bool, true, false, List, [], length, slice_get, Some, None, Option, if◌then◌else◌}
+use Rattle.std.specs.Prelude.{◌≡◌, ◌⊎◌, ℕ, Bool, true, false, List, [], Some, None, Option, if◌then◌else◌}
 use Rattle.std.specs.List.{list_all}
 use Rattle.pt_choice.specs.declared.choice.Choice.{Choice}
 use Rattle.pt_choice.specs.Faults.{Rose}
@@ -21,7 +21,6 @@ use Rattle.pt_turns.specs.declared.reporting.Reported.{Reported}
 use Rattle.pt_turns.specs.Blocks.{AreWritten, AreWrittenAnd, AreWrittenAndPart, IsLastCut}
 use Rattle.pt_turns.specs.Ended.{AreOfNext}
 use Rattle.pt_turns.specs.Scene.{Scene}
-use Rattle.pt_turns.specs.Turn.{Turn}
 use Rattle.pt_turns.specs.Turns.{AreTurns, FirstTurns}
 
 -- each of the findings is that its item passed
@@ -39,7 +38,7 @@ module _ {C : Type 0} (name : C → List ℕ) (step : C → List Choice → Answ
     pub edits : List PairEdit
     pub turns : FirstTurns name step checks seed old items findings edits
     pub more : List PairEdit
-    pub of_next : AreOfNext items findings more
+    pub of_next : AreOfNext name step checks seed items old findings edits more
     pub kept : SettledAnd edits more old new
 
   -- the folder could not be settled, and no item had its turn; or the disk failed in the next item's turn
@@ -47,17 +46,10 @@ module _ {C : Type 0} (name : C → List ℕ) (step : C → List Choice → Answ
   IsHalted findings old new =
       ((findings ≡ []) × BothTell (Attached false) old new) ⊎ PartlyDone findings old new
 
-  -- two values clash in the edits of the next item's turn
+  -- the same, and two values clash in the next item's edits
   pub record IsClashing (findings : List Finding) (two : TwoValues) (old new : Option Told) : Type 0 where
-    pub edits : List PairEdit
-    pub turns : FirstTurns name step checks seed old items findings edits
-    pub next : ItemTree
-    pub stands : slice_get items (length findings) ≡ Some next
-    pub finding : Finding
-    pub more : List PairEdit
-    pub turn : Turn name step checks seed old edits next finding more
-    pub clash : IsClashIn edits more old two
-    pub kept : SettledAnd edits more old new
+    pub partly : PartlyDone findings old new
+    pub clash : IsClashIn partly.edits partly.more old two
 
   -- all items had their turns, and the whole report of their findings is written
   pub record IsWhole (reported : Reported) (old new : Scene) : Type 0 where

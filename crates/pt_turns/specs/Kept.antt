@@ -25,3 +25,12 @@ AreKept files more (item ∷ items) (finding ∷ findings) =
     IsKept files (digest_of item) finding.verdict) × AreKept files more items findings
 AreKept files more [] (finding ∷ findings) = ⊥
 AreKept files more (item ∷ items) [] = ⊥
+
+-- each failure of the findings, which are those of some first ones of the items, is stored, where no later item's name has the digest of
+-- its item's name
+abbrev pub AreStillKept : Files → List ItemTree → List Finding → Type 0
+AreStillKept files items [] = Unit {0}
+AreStillKept files (item ∷ items) (finding ∷ findings) =
+    (AllByRecursion (λ other. digest_of other ≢ digest_of item) items → IsKept files (digest_of item) finding.verdict)
+    × AreStillKept files items findings
+AreStillKept files [] (finding ∷ findings) = ⊥

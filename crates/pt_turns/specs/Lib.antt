@@ -11,3 +11,4 @@ pub mod Added
 pub mod Agree
 pub mod Kept
 pub mod Crash
+pub mod Differences

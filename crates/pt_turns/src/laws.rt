@@ -1,6 +1,6 @@
 //! What follows of the turns of any items. These functions do nothing: their contracts are the laws.
 
-ghost use Rattle.std.specs.Prelude.{◌≡◌, ◌⊎◌, ◌++◌, ℕ, List, [], map, Option, Some};
+ghost use Rattle.std.specs.Prelude.{◌≡◌, ◌⊎◌, ◌<◌, ◌++◌, ℕ, List, [], map, Option, Some};
 ghost use Rattle.pt_ast.specs.Bounds.{IsBounded};
 ghost use Rattle.pt_ast.specs.Names.{AreDistinct};
 ghost use Rattle.pt_ast.specs.Suites.{IsTyped};
@@ -14,9 +14,10 @@ ghost use Rattle.pt_found.specs.declared.finding.Finding.{Finding};
 ghost use Rattle.pt_stored.specs.Stored.{SameStored, pending};
 ghost use Rattle.pt_turns.specs.Agree.{AllAgree, AgreeWhereOwn};
 ghost use Rattle.pt_turns.specs.Blocks.{AreWritten};
-ghost use Rattle.pt_turns.specs.Crash.{IsMidway};
+ghost use Rattle.pt_turns.specs.Crash.{IsMidway, IsAtExit, IsAtEnd};
+ghost use Rattle.pt_turns.specs.Differences.{NothingIsLost, NothingIsInvented};
 ghost use Rattle.pt_turns.specs.Finishes.{Finishes, StoppedShort};
-ghost use Rattle.pt_turns.specs.Kept.{AreKept};
+ghost use Rattle.pt_turns.specs.Kept.{AreKept, AreStillKept};
 ghost use Rattle.pt_turns.specs.Ready.{AreReady};
 ghost use Rattle.pt_turns.specs.Scene.{Scene};
 ghost use Rattle.pt_turns.specs.Turns.{AreExamined, AreTurns};
@@ -67,4 +68,40 @@ pub fn a_crash_leaves_first_edits<C: Check>(checks: &[C])
         → IsTidy pending (now start) → IsImageSince end start.clock image
         → IsImage (now start) image
         ⊎ ((findings : List Finding) × AreWritten findings old.sink.bytes new.sink.bytes × IsMidway C.name C.step checks.now seed items findings start image) }
+{}
+
+/// What a crash leaves at any moment of a run: of what was stored nothing is missing but values under the digests of the items' names that spell no
+/// list, those whose list does not fail on such an item, and those of version 1 that are kept in version 2; and nothing is new but failures of such items,
+/// in version 2. So it is too where names of several items have one digest.
+pub fn a_run_loses_and_invents_nothing<C: Check>(checks: &[C])
+    ensures lost { (seed : ℕ) (items : List ItemTree) (findings : List Finding) (start : Told) (image : Files)
+        → IsMidway C.name C.step checks.now seed items findings start image → NothingIsLost C.name C.step checks.now items (reads (now start)) image }
+    ensures invented { (seed : ℕ) (items : List ItemTree) (findings : List Finding) (start : Told) (image : Files)
+        → IsMidway C.name C.step checks.now seed items findings start image → NothingIsInvented C.name C.step checks.now items (reads (now start)) image }
+{}
+
+/// What a crash leaves at the exit of a run that began on a tidy disk: with status 0 or 1 what was stored at the start, after all edits of the turns; with
+/// each status, and after want of memory, that after all edits of the turns of the findings, and then some first ones of the next item's; where the folder could not be settled, and no
+/// item had its turn, what it might have left at the start.
+pub fn an_exit_leaves_the_turns<C: Check>(checks: &[C])
+    ensures whole { (seed : ℕ) (items : List ItemTree) (reported : Reported) (old new : Scene) (start end : Told) (image : Files)
+        → Finishes C.name C.step checks.now seed items reported old new → reported.status < 2 → old.disk.told ≡ Some start → new.disk.told ≡ Some end
+        → IsTidy pending (now start) → IsImage (now end) image → IsAtEnd C.name C.step checks.now seed items reported.findings start image }
+    ensures ended { (seed : ℕ) (items : List ItemTree) (reported : Reported) (old new : Scene) (start end : Told) (image : Files)
+        → Finishes C.name C.step checks.now seed items reported old new → old.disk.told ≡ Some start → new.disk.told ≡ Some end
+        → IsTidy pending (now start) → IsImage (now end) image
+        → ((reported.findings ≡ []) × IsImage (now start) image) ⊎ IsAtExit C.name C.step checks.now seed items reported.findings start image }
+    ensures short { (seed : ℕ) (items : List ItemTree) (old new : Scene) (start end : Told) (image : Files)
+        → StoppedShort C.name C.step checks.now seed items old new → old.disk.told ≡ Some start → new.disk.told ≡ Some end
+        → IsTidy pending (now start) → IsImage (now end) image
+        → (findings : List Finding) × AreWritten findings old.sink.bytes new.sink.bytes × IsAtExit C.name C.step checks.now seed items findings start image }
+{}
+
+/// What an exit leaves: each failure that was shown is stored, in version 2, unless a later item's name has the digest of its item's name. And an exit
+/// is a moment of the run.
+pub fn an_exit_keeps_what_was_shown<C: Check>(checks: &[C])
+    ensures kept { (seed : ℕ) (items : List ItemTree) (findings : List Finding) (start : Told) (image : Files)
+        → IsAtExit C.name C.step checks.now seed items findings start image → AreStillKept image items findings }
+    ensures midway { (seed : ℕ) (items : List ItemTree) (findings : List Finding) (start : Told) (image : Files)
+        → IsAtExit C.name C.step checks.now seed items findings start image → IsMidway C.name C.step checks.now seed items findings start image }
 {}

@@ -12,7 +12,8 @@ mod settling;
 mod turns;
 
 pub use laws::{
-    a_crash_leaves_first_edits, sound_items_are_ready, what_is_shown_is_stored,
+    a_crash_leaves_first_edits, a_run_loses_and_invents_nothing, an_exit_keeps_what_was_shown,
+    an_exit_leaves_the_turns, sound_items_are_ready, what_is_shown_is_stored,
     workers_change_no_finding,
 };
 pub use reporting::{Reported, report, status_of};
