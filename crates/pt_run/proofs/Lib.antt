@@ -6,6 +6,7 @@ pub mod Items
 pub mod Messages
 pub mod Performing
 pub mod Replaying
+pub mod SecondRuns
 pub mod Statuses
 pub mod Suites
 pub mod Words

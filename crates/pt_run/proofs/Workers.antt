@@ -1,13 +1,14 @@
 -- Two runs of one file differ in their reductions alone.
-use Rattle.std.proofs.Common.{◌≡◌, ◌⊎◌, inl, inr, ℕ, ◌<◌, List, [], Option, Some, ◌∙◌, subst, arith}
+use Rattle.std.proofs.Common.{◌≡◌, ◌⊎◌, inl, inr, ℕ, ◌<◌, true, List, [], Option, Some, refl, ◌∙◌, subst, arith}
 use Rattle.std.specs.Prelude.{IsSome, map}
 use Rattle.pt_choice.specs.declared.choice.Choice.{Choice}
 use Rattle.pt_ast.specs.Trees.{ItemTree, SuiteTree}
 use Rattle.pt_parse.specs.Suites.{Reads}
 use Rattle.pt_case.specs.Step.{Answer}
 use Rattle.pt_disk.specs.Folder.{reads}
-use Rattle.pt_disk.specs.Moments.{Told, now}
-use Rattle.pt_edits.specs.Pairs.{PairEdit}
+use Rattle.pt_disk.specs.Moments.{Told, now, BothTell}
+use Rattle.pt_edits.specs.Made.{Settled}
+use Rattle.pt_edits.specs.Pairs.{PairEdit, IsAfter}
 use Rattle.pt_found.specs.declared.finding.Finding.{Finding}
 use Rattle.pt_io.specs.Files.{IsSame}
 use Rattle.pt_io.specs.Reading.{IsWithinLimit}
@@ -38,12 +39,13 @@ not_below refusal.TooLarge below = absurd (omega (arith, below))
 not_below refusal.UnknownItem below = absurd (omega (arith, below))
 
 module _ {C : Type 0} (name : C → List ℕ) (step : C → List Choice → Answer → Type 0) (checks : List C) where
-  -- the suite of a run that came to its end, and the turns of its items
-  record HasRun (call : Call) (file : List ℕ) (seed : ℕ) (told : Told) : Type 0 where
+  -- the suite of a run that came to its end, the turns of its items, and what it left
+  pub record HasRun (call : Call) (file : List ℕ) (seed : ℕ) (told : Told) : Type 0 where
     pub suite : SuiteTree
     pub taken : IsTaken (map name checks) call.before.files call.after.files file suite
     pub edits : List PairEdit
     pub turns : AreTurns name step checks seed (Some told) suite.items call.finish.findings edits
+    pub left : (end : Told) → call.after.disk.told ≡ Some end → IsAfter edits (reads (now told)) (reads (now end))
 
   run_one : (call : Call) (one : Asked) (file : List ℕ) (seed workers : ℕ) (told : Told) → Alike one (Run file seed workers) →
       Ends name step checks one call.before call.after call.finish → call.finish.status < 2 → call.before.disk.told ≡ Some told → HasRun call file seed told
@@ -53,6 +55,10 @@ module _ {C : Type 0} (name : C → List ℕ) (step : C → List Choice → Answ
     edits = whole.edits;
     turns = subst (λ (s : ℕ). AreTurns name step checks s (Some told) suite.items call.finish.findings whole.edits) alike.1
         (subst (λ (t : Option Told). AreTurns name step checks seed' t suite.items call.finish.findings whole.edits) telling whole.turns);
+    left = λ end ended.
+        let settled : Settled whole.edits true told end = subst (λ (t : Option Told). BothTell (Settled whole.edits true) (Some told) t) ended
+        (subst (λ (t : Option Told). BothTell (Settled whole.edits true) t call.after.disk.told) telling whole.kept) in
+        settled.edited refl;
   }
   run_one call (Run other seed' workers') file seed workers told alike (inl (suite, taken, ((inr (inl unstored)), none))) below telling =
       absurd (omega (arith, unstored.ends, below))
@@ -70,7 +76,7 @@ module _ {C : Type 0} (name : C → List ℕ) (step : C → List Choice → Answ
   run_one call Stored file seed workers told alike ends below telling = absurd alike
   run_one call (Make seed' count) file seed workers told alike ends below telling = absurd alike
 
-  has_run : (call : Call) (file : List ℕ) (seed workers : ℕ) (told : Told) → Answers name step checks call → AsksRun call.words file seed workers →
+  pub has_run : (call : Call) (file : List ℕ) (seed workers : ℕ) (told : Told) → Answers name step checks call → AsksRun call.words file seed workers →
       call.finish.status < 2 → call.before.disk.told ≡ Some told → HasRun call file seed told
   has_run call file seed workers told (inl (nothing, tells)) asks below telling = absurd (nothing (Run file seed workers) asks)
   has_run call file seed workers told (inr (one, words, ends)) asks below telling =

@@ -1,6 +1,7 @@
 //! The commands of the tester: the one call that does all that the program does.
 #![tactic(auto)]
 
+mod again;
 mod command;
 mod entry;
 mod finish;
@@ -13,6 +14,7 @@ mod showing;
 mod storing;
 mod telling;
 
+pub use again::what_is_shown_is_found_again;
 pub use entry::top;
 pub use finish::Finish;
 pub use laws::{

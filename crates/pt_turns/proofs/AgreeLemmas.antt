@@ -43,7 +43,7 @@ never-again name first rest place other distinct at same =
     cc
 
 -- of checks with distinct names one alone has a name
-one-named : {C : Type 0} (name : C → List ℕ) (checks : List C) (place again : ℕ) (one other : C) → AreDistinct (map name checks) →
+pub one-named : {C : Type 0} (name : C → List ℕ) (checks : List C) (place again : ℕ) (one other : C) → AreDistinct (map name checks) →
     slice_get checks place ≡ Some one → slice_get checks again ≡ Some other → name one ≡ name other → one ≡ other
 one-named name [] place again one other distinct at there same = cc
 one-named name (first ∷ rest) zero zero one other distinct at there same = cc

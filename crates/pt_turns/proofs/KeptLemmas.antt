@@ -43,14 +43,14 @@ here x xs = (0, omega arith, refl)
 later : {X : Type 0} (x : X) (xs : List X) (y : X) → Contains xs y → Contains (x ∷ xs) y
 later x xs y (k, within, is) = (suc k, omega (arith, within), is)
 
-in-either : (edit : PairEdit) (one more : List PairEdit) → IsIn edit (one ++ more) → IsIn edit one ⊎ IsIn edit more
+pub in-either : (edit : PairEdit) (one more : List PairEdit) → IsIn edit (one ++ more) → IsIn edit one ⊎ IsIn edit more
 in-either edit [] more within = inr within
 in-either edit (first ∷ one) more within = ⊎_elim
     (λ same. inl (inl same))
     (λ other. ⊎_elim (λ early. inl (inr early)) (λ late. inr late) (in-either edit one more other))
     within
 
-in-first : (edit : PairEdit) (one more : List PairEdit) → IsIn edit one → IsIn edit (one ++ more)
+pub in-first : (edit : PairEdit) (one more : List PairEdit) → IsIn edit one → IsIn edit (one ++ more)
 in-first edit [] more within = absurd within
 in-first edit (first ∷ one) more within = ⊎_elim (λ same. inl same) (λ other. inr (in-first edit one more other)) within
 
@@ -127,13 +127,13 @@ module _ (step : List Choice → Answer → Type 0) (digest : List ℕ) (shown :
       (never-both its rest never (asked-never readings others left rest (λ other within. spelled other (later reading readings other within)) those left_are follow))
 
 -- the edits of a turn save the failure that is shown, and do not delete it
-abbrev Saves : List ℕ → Verdict → List PairEdit → Type 0
+abbrev pub Saves : List ℕ → Verdict → List PairEdit → Type 0
 Saves digest Passed edits = Unit {0}
 Saves digest GaveUp edits = Unit {0}
 Saves digest (Failed shown found spent) edits =
     (fresh : List ℕ) × Stored shown.choices fresh × IsIn (SavePair digest fresh) edits × ¬ IsIn (DeletePair digest fresh) edits
 
-edits-save : (step : List Choice → Answer → Type 0) (digest : List ℕ) (verdict : Verdict) (readings : List Reading) (records : List Record) (flags : List Bool)
+pub edits-save : (step : List Choice → Answer → Type 0) (digest : List ℕ) (verdict : Verdict) (readings : List Reading) (records : List Record) (flags : List Bool)
     (edits : List PairEdit) → ReplaysItself step verdict → All IsSpelled readings → AreRecords step (lists_of readings) records → flags ≡ flags_of records →
     AreEdits digest readings verdict flags edits → Saves digest verdict edits
 edits-save step digest Passed readings records flags edits replays spelled are same is = tt
@@ -172,7 +172,7 @@ module _ {C : Type 0} (name : C → List ℕ) (step : C → List Choice → Answ
     -- ---- the edits of later turns
 
     -- an edit of another digest
-    abbrev IsOther : List ℕ → PairEdit → Type 0
+    abbrev pub IsOther : List ℕ → PairEdit → Type 0
     IsOther digest edit = ¬ edit_digest edit ≡ digest
 
     all-others : (digest : List ℕ) (edits : List PairEdit) → AllByRecursion (IsOther digest) edits → (bytes : List ℕ) → ¬ IsIn (DeletePair digest bytes) edits
@@ -190,7 +190,7 @@ module _ {C : Type 0} (name : C → List ℕ) (step : C → List Choice → Answ
     under-others digest other (edit ∷ edits) differ under = ((λ same. differ (sym under.0 ∙ same)), under-others digest other edits differ under.1)
 
     -- what comes after the edits that were done, and of no item with this digest
-    turns-rest : (digest : List ℕ) (done : List PairEdit) (items : List ItemTree) (findings : List Finding) (all : List PairEdit) →
+    pub turns-rest : (digest : List ℕ) (done : List PairEdit) (items : List ItemTree) (findings : List Finding) (all : List PairEdit) →
         AreTurnsAfter name step checks seed told done items findings all → AllByRecursion (λ other. ¬ digest_of other ≡ digest) items →
         (rest : List PairEdit) × (all ≡ done ++ rest) × AllByRecursion (IsOther digest) rest
     turns-rest digest done [] [] all turns differ = ([], turns ∙ sym (append-nil done), tt)

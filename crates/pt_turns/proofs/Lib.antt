@@ -1,3 +1,4 @@
+mod AgainLemmas
 mod AgreeLemmas
 mod BlockLemmas
 mod CountLemmas
@@ -7,6 +8,7 @@ mod ExaminedLemmas
 pub mod ExitLemmas
 mod FinishLemmas
 mod KeptLemmas
+mod LeftLemmas
 mod OnwardLemmas
 mod OwnLemmas
 mod ReadyLemmas

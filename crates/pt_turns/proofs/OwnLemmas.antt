@@ -25,26 +25,26 @@ use Rattle.pt_turns.proofs.SameReadings.{there, one-reading}
 -- ---- edits under other digests
 
 -- each of the edits is under one of these digests
-abbrev AreAmong : List (List ℕ) → List PairEdit → Type 0
+abbrev pub AreAmong : List (List ℕ) → List PairEdit → Type 0
 AreAmong digests edits = AllByRecursion (λ edit. Contains digests (digest_of edit)) edits
 
-among-more : (digest : List ℕ) (digests : List (List ℕ)) (edits : List PairEdit) → AreAmong digests edits → AreAmong (digest ∷ digests) edits
+pub among-more : (digest : List ℕ) (digests : List (List ℕ)) (edits : List PairEdit) → AreAmong digests edits → AreAmong (digest ∷ digests) edits
 among-more digest digests [] among = tt
 among-more digest digests (edit ∷ edits) among = (there digest digests (digest_of edit) among.0, among-more digest digests edits among.1)
 
-among-under : (digest : List ℕ) (digests : List (List ℕ)) (edits : List PairEdit) → AreUnder digest edits → AreAmong (digest ∷ digests) edits
+pub among-under : (digest : List ℕ) (digests : List (List ℕ)) (edits : List PairEdit) → AreUnder digest edits → AreAmong (digest ∷ digests) edits
 among-under digest digests [] under = tt
 among-under digest digests (edit ∷ edits) under = ((0, omega arith, sym under.0), among-under digest digests edits under.1)
 
 -- an edit under another digest leaves what is stored under this one
-other-edit : (edit : PairEdit) (S : Pairs) (d b : List ℕ) → (digest_of edit ≡ d → ⊥) → after edit S d b ↔ S d b
+pub other-edit : (edit : PairEdit) (S : Pairs) (d b : List ℕ) → (digest_of edit ≡ d → ⊥) → after edit S d b ↔ S d b
 other-edit (SavePair digest bytes) S d b other = (
   λ has. ⊎_elim (λ was. was) (λ pair. absurd (other (sym pair.0))) has,
   λ was. inl was,
 )
 other-edit (DeletePair digest bytes) S d b other = (λ has. has.0, λ was. (was, λ pair. other (sym pair.0)))
 
-others-left : (digests : List (List ℕ)) (edits : List PairEdit) (S : Pairs) (d b : List ℕ) → AreAmong digests edits → ¬ Contains digests d →
+pub others-left : (digests : List (List ℕ)) (edits : List PairEdit) (S : Pairs) (d b : List ℕ) → AreAmong digests edits → ¬ Contains digests d →
     after_all edits S d b ↔ S d b
 others-left digests [] S d b among none = (λ has. has, λ has. has)
 others-left digests (edit ∷ edits) S d b among none =

@@ -14,13 +14,13 @@ use Rattle.pt_edits.specs.declared.reading.Reading.{Reading}
 
 -- ---- lists in order
 
-here : {X : Type 0} (x : X) (xs : List X) → Contains (x ∷ xs) x
+pub here : {X : Type 0} (x : X) (xs : List X) → Contains (x ∷ xs) x
 here x xs = (0, omega arith, refl)
 
 pub there : {X : Type 0} (y : X) (xs : List X) (x : X) → Contains xs x → Contains (y ∷ xs) x
 there y xs x (k, within, at) = (suc k, omega (arith, within), at)
 
-first-or-later : {X : Type 0} (y : X) (xs : List X) (x : X) → Contains (y ∷ xs) x → (y ≡ x) ⊎ Contains xs x
+pub first-or-later : {X : Type 0} (y : X) (xs : List X) (x : X) → Contains (y ∷ xs) x → (y ≡ x) ⊎ Contains xs x
 first-or-later y xs x (zero, within, at) = inl at
 first-or-later y xs x (suc k, within, at) = inr (k, omega (arith, within), at)
 

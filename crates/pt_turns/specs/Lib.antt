@@ -9,6 +9,7 @@ pub mod Finishes
 pub mod Settling
 pub mod Added
 pub mod Agree
+pub mod Again
 pub mod Kept
 pub mod Crash
 pub mod Differences

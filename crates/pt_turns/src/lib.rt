@@ -4,6 +4,7 @@
 //! ended is said over it: all items had their turns, or the output failed, or there was no memory.
 #![tactic(auto)]
 
+mod again;
 mod examining;
 mod laws;
 mod one_turn;
@@ -11,6 +12,7 @@ mod reporting;
 mod settling;
 mod turns;
 
+pub use again::what_is_shown_is_found_again;
 pub use laws::{
     a_crash_leaves_first_edits, a_run_loses_and_invents_nothing, an_exit_keeps_what_was_shown,
     an_exit_leaves_the_turns, sound_items_are_ready, what_is_shown_is_stored,
