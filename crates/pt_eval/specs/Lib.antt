@@ -6,4 +6,5 @@ pub mod Calls
 pub mod Value
 pub mod Evaluates
 pub mod Spends
+pub mod Seen
 pub mod Laws

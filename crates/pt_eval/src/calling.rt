@@ -2,11 +2,13 @@ ghost use Rattle.std.specs.Prelude.{◌≡◌, pos, [], ◌∷◌, ◌++◌, map
 ghost use Rattle.std.specs.List.{flat_map};
 ghost use Rattle.pt_eval.specs.Parts.{labels_of};
 ghost use Rattle.pt_eval.specs.Calls.{call_value, joined, reversed, total};
+ghost use Rattle.pt_eval.specs.Seen.{seen};
 ghost use Rattle.pt_eval.specs.Evaluates.{Evaluates};
 
 use crate::applying::{in_range, sum};
 use crate::comparing::has;
 use crate::reading::{into_children, into_members, label, length};
+use crate::seen::Seen;
 use crate::{EvalStop, members, number};
 use pt_ast::Func;
 use pt_choice::{NoMemory, Octets, Seq};
@@ -14,17 +16,22 @@ use pt_val::{Chars, Place, Val, Vals};
 use std::alloc::Global;
 
 /// What a function makes of one argument.
-pub(crate) fn call_one(alloc: Global, func: Func, at: Place, given: Val) -> Result<Val, EvalStop>
-    ensures { Evaluates (call_value func at (given ∷ [])) result }
+pub(crate) fn call_one(
+    alloc: Global,
+    func: Func,
+    at: Place,
+    given: Seen<'_>,
+) -> Result<Val, EvalStop>
+    ensures { Evaluates (call_value func at (seen given.entry ∷ [])) result }
 {
     match func {
-        Func::Len => Ok(Val::Int(length(&given))),
-        Func::Sum => total(at, members(&given)),
-        Func::Rev => Ok(reverse(alloc, given)?),
-        Func::Leaf => Ok(Val::Node(number(&given), Seq::empty(alloc))),
-        Func::Label => Ok(Val::Int(label(&given))),
-        Func::Kids => Ok(Val::List(into_children(alloc, given))),
-        Func::Labels => Ok(Val::List(labels(alloc, &given)?)),
+        Func::Len => Ok(Val::Int(length(given.val()))),
+        Func::Sum => total(at, members(given.val())),
+        Func::Rev => Ok(reverse(alloc, given.taken()?)?),
+        Func::Leaf => Ok(Val::Node(number(given.val()), Seq::empty(alloc))),
+        Func::Label => Ok(Val::Int(label(given.val()))),
+        Func::Kids => Ok(Val::List(into_children(alloc, given.taken()?))),
+        Func::Labels => Ok(Val::List(labels(alloc, given.val())?)),
         Func::Has | Func::Cat | Func::Node => Ok(Val::Int(0)),
     }
 }
@@ -34,15 +41,15 @@ pub(crate) fn call_two(
     alloc: Global,
     func: Func,
     at: Place,
-    one: Val,
-    other: Val,
+    one: Seen<'_>,
+    other: Seen<'_>,
 ) -> Result<Val, EvalStop>
-    ensures { Evaluates (call_value func at (one ∷ other ∷ [])) result }
+    ensures { Evaluates (call_value func at (seen one.entry ∷ seen other.entry ∷ [])) result }
 {
     match func {
-        Func::Has => Ok(Val::Bool(has(members(&one), &other))),
-        Func::Cat => Ok(join(one, other)?),
-        Func::Node => Ok(Val::Node(number(&one), into_members(alloc, other))),
+        Func::Has => Ok(Val::Bool(has(members(one.val()), other.val()))),
+        Func::Cat => Ok(join(one.taken()?, other.taken()?)?),
+        Func::Node => Ok(Val::Node(number(one.val()), into_members(alloc, other.taken()?))),
         _ => Ok(Val::Int(0)),
     }
 }

@@ -9,6 +9,7 @@ mod evaluating;
 mod indexing;
 mod laws;
 mod reading;
+mod seen;
 mod sharing;
 mod stop;
 mod walking;

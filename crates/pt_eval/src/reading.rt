@@ -55,6 +55,16 @@ pub(crate) fn into_children(alloc: Global, val: Val) -> Vals
     }
 }
 
+/// The parts of a tuple.
+pub(crate) fn parts(val: &Val) -> &[Val]
+    ensures { result.now ≡ parts_of val.now }
+{
+    match val {
+        Val::Tuple(parts) => parts.as_slice(),
+        _ => &[],
+    }
+}
+
 /// The parts of a tuple, taken out of it.
 pub(crate) fn into_parts(alloc: Global, val: Val) -> Vals
     ensures { result ≡ parts_of val }

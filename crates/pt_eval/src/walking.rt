@@ -10,6 +10,7 @@ ghost use Rattle.pt_eval.specs.Calls.{call_value};
 ghost use Rattle.pt_eval.specs.Value.{value_of, values_of, sought_value, tail_value, chain_value, post_value, posts_value, bind_value, cost_of, costs_of, sought_cost, tail_cost, chain_cost, post_cost, posts_cost, bind_cost};
 ghost use Rattle.pt_eval.specs.Evaluates.{Evaluates};
 ghost use Rattle.pt_eval.specs.Spends.{Spends};
+ghost use Rattle.pt_eval.specs.Seen.{seen, shown};
 
 use crate::applying::{apply, negate};
 use crate::calling::{call_one, call_two};
@@ -17,6 +18,7 @@ use crate::comparing::compare;
 use crate::env::newest;
 use crate::indexing::{index, part};
 use crate::reading::into_members;
+use crate::seen::Seen;
 use crate::stop::WalkStop;
 use crate::{Env, EvalStop, number, truth};
 use pt_ast::{Binder, Expr, ExprKind, Func, PostTail, Tail};
@@ -43,7 +45,7 @@ pub(crate) fn walk(
         ExprKind::Text(chars) => pay(Val::Text(chars.copy()?), left),
         ExprKind::Bytes(bytes) => pay(Val::Bytes(bytes.copy()?), left),
         ExprKind::Flag(truth) => pay(Val::Bool(*truth), left),
-        ExprKind::Var(name) => pay(look_up(name, env, locals)?, left),
+        ExprKind::Var(name) => pay(look_up(name, env, locals)?.taken()?, left),
         ExprKind::If(test, first, other) => {
             let test = walk(alloc, test, env, locals, left)?;
             let val = if truth(&test) {
@@ -60,9 +62,9 @@ pub(crate) fn walk(
             pay(Val::Bool(!truth(&val)), left)
         }
         ExprKind::Compare(one, op, other) => {
-            let one = walk(alloc, one, env, locals, left)?;
-            let other = walk(alloc, other, env, locals, left)?;
-            pay(Val::Bool(compare(*op, &one, &other)), left)
+            let one = see(alloc, one, env, locals, left)?;
+            let other = see(alloc, other, env, locals, left)?;
+            pay(Val::Bool(compare(*op, one.val(), other.val())), left)
         }
         ExprKind::Sum(first, tails) => {
             let first = walk(alloc, first, env, locals, left)?;
@@ -77,8 +79,9 @@ pub(crate) fn walk(
             pay_made(negate(e.at, number(&val)), left)
         }
         ExprKind::Post(base, posts) => {
-            let base = walk(alloc, base, env, locals, left)?;
-            walk_posts(alloc, posts.as_slice(), base, env, locals, left)
+            let base = see(alloc, base, env, locals, left)?;
+            let val = see_posts(alloc, posts.as_slice(), base, env, locals, left)?;
+            Ok(val.taken()?)
         }
         ExprKind::Call(func, parts) => walk_call(
             alloc,
@@ -106,6 +109,28 @@ pub(crate) fn walk(
             let values = walk_all(alloc, parts.as_slice(), env, locals, left)?;
             pay(Val::List(values), left)
         }
+    }
+}
+
+/// The value of an expression that is only looked at: that of a name of `env`, or of what it holds, stays where it is.
+#[cycle(walk)]
+fn see<'a>(
+    alloc: Global,
+    e: &Expr,
+    env: &'a Env,
+    locals: &mut Env,
+    left: &mut u32,
+) -> Result<Seen<'a>, WalkStop>
+    ensures spends { Spends (value_of (plain_expr e.now) (env.now ++ locals.old)) (cost_of (plain_expr e.now) (env.now ++ locals.old)) left.old left.new (shown result) }
+    ensures locals { locals.new ≡ locals.old }
+{
+    match &e.kind {
+        ExprKind::Var(name) => pay_seen(look_up(name, env, locals)?, left),
+        ExprKind::Post(base, posts) => {
+            let base = see(alloc, base, env, locals, left)?;
+            see_posts(alloc, posts.as_slice(), base, env, locals, left)
+        }
+        _ => Ok(Seen::Made(walk(alloc, e, env, locals, left)?)),
     }
 }
 
@@ -190,56 +215,56 @@ fn walk_tail(
         (tail_cost (plain_tail tail.now) (env.now ++ locals.old) so_far.now) left.old left.new result }
     ensures locals { locals.new ≡ locals.old }
 {
-    let right = walk(alloc, &tail.right, env, locals, left)?;
+    let right = see(alloc, &tail.right, env, locals, left)?;
     pay_made(
-        apply(tail.op, tail.at, number(so_far), number(&right)),
+        apply(tail.op, tail.at, number(so_far), number(right.val())),
         left,
     )
 }
 
 /// Indexes and parts from left to right.
 #[cycle(walk)]
-fn walk_posts(
+fn see_posts<'a>(
     alloc: Global,
     posts: &[PostTail],
-    base: Val,
-    env: &Env,
+    base: Seen<'a>,
+    env: &'a Env,
     locals: &mut Env,
     left: &mut u32,
-) -> Result<Val, WalkStop>
-    ensures spends { Spends (posts_value (plain_posts posts.now) (env.now ++ locals.old) base)
-        (posts_cost (plain_posts posts.now) (env.now ++ locals.old) base) left.old left.new result }
+) -> Result<Seen<'a>, WalkStop>
+    ensures spends { Spends (posts_value (plain_posts posts.now) (env.now ++ locals.old) (seen base.entry))
+        (posts_cost (plain_posts posts.now) (env.now ++ locals.old) (seen base.entry)) left.old left.new (shown result) }
     ensures locals { locals.new ≡ locals.old }
 {
     let mut so_far = base;
     for post in posts {
-        so_far = walk_post(alloc, post, so_far, env, locals, left)?;
+        so_far = see_post(alloc, post, so_far, env, locals, left)?;
     }
     Ok(so_far)
 }
 
 #[cycle(walk)]
-fn walk_post(
+fn see_post<'a>(
     alloc: Global,
     post: &PostTail,
-    so_far: Val,
-    env: &Env,
+    so_far: Seen<'a>,
+    env: &'a Env,
     locals: &mut Env,
     left: &mut u32,
-) -> Result<Val, WalkStop>
-    ensures spends { Spends (post_value (plain_post post.now) (env.now ++ locals.old) so_far)
-        (post_cost (plain_post post.now) (env.now ++ locals.old) so_far) left.old left.new result }
+) -> Result<Seen<'a>, WalkStop>
+    ensures spends { Spends (post_value (plain_post post.now) (env.now ++ locals.old) (seen so_far.entry))
+        (post_cost (plain_post post.now) (env.now ++ locals.old) (seen so_far.entry)) left.old left.new (shown result) }
     ensures locals { locals.new ≡ locals.old }
 {
     match post {
         PostTail::Index { at, index: place } => {
             let place = walk(alloc, place, env, locals, left)?;
-            pay_made(index(*at, so_far, number(&place)), left)
+            pay_found(index(*at, so_far, number(&place)), left)
         }
         PostTail::Part {
             at: _,
             part: number,
-        } => pay(part(alloc, so_far, *number), left),
+        } => pay_seen(part(alloc, so_far, *number), left),
     }
 }
 
@@ -261,12 +286,12 @@ fn walk_call(
 {
     match parts {
         [given] => {
-            let given = walk(alloc, given, env, locals, left)?;
+            let given = see(alloc, given, env, locals, left)?;
             pay_made(call_one(alloc, func, at, given), left)
         }
         [one, other] => {
-            let one = walk(alloc, one, env, locals, left)?;
-            let other = walk(alloc, other, env, locals, left)?;
+            let one = see(alloc, one, env, locals, left)?;
+            let other = see(alloc, other, env, locals, left)?;
             pay_made(call_two(alloc, func, at, one, other), left)
         }
         _ => {
@@ -354,16 +379,16 @@ fn seek_member(
     Ok(Val::Bool(!sought))
 }
 
-/// The newest value of the name, or 0 for a name that is not in scope.
-fn look_up(name: &Name, env: &Env, locals: &Env) -> Result<Val, NoMemory>
-    ensures { IfOk result (λ val. val ≡ or_zero (value_in name.now (env.now ++ locals.now))) }
+/// The newest value of the name, or 0 for a name that is not in scope. That of a local is copied, since the locals change.
+fn look_up<'a>(name: &Name, env: &'a Env, locals: &Env) -> Result<Seen<'a>, NoMemory>
+    ensures { IfOk result (λ found. seen found ≡ or_zero (value_in name.now (env.now ++ locals.now))) }
 {
     if let Some(val) = newest(name, locals.as_slice()) {
-        return val.copy();
+        return Ok(Seen::Made(val.copy()?));
     }
     match newest(name, env.as_slice()) {
-        Some(val) => val.copy(),
-        None => Ok(Val::Int(0)),
+        Some(val) => Ok(Seen::Lent(val)),
+        None => Ok(Seen::Made(Val::Int(0))),
     }
 }
 
@@ -371,13 +396,35 @@ fn look_up(name: &Name, env: &Env, locals: &Env) -> Result<Val, NoMemory>
 fn pay(val: Val, left: &mut u32) -> Result<Val, WalkStop>
     ensures { Spends (Ok val) (1 + size_of val) left.old left.new result }
 {
+    pay_for(&val, left)?;
+    Ok(val)
+}
+
+/// Pays for a value, wherever it is.
+fn pay_seen<'a>(found: Seen<'a>, left: &mut u32) -> Result<Seen<'a>, WalkStop>
+    ensures { Spends (Ok (seen found.entry)) (1 + size_of (seen found.entry)) left.old left.new (shown result) }
+{
+    pay_for(found.val(), left)?;
+    Ok(found)
+}
+
+/// Pays for what was found, where it is a value.
+fn pay_found<'a>(found: Result<Seen<'a>, EvalStop>, left: &mut u32) -> Result<Seen<'a>, WalkStop>
+    ensures { (value : Result Val Origin) → Evaluates value (shown found.entry) → Spends value (counted value) left.old left.new (shown result) }
+{
+    pay_seen(found?, left)
+}
+
+fn pay_for(val: &Val, left: &mut u32) -> Result<(), WalkStop>
+    ensures { Spends (Ok tt) (1 + size_of val.now) left.old left.new result }
+{
     let rest = u64::from(*left);
-    let size = size(&val);
+    let size = size(val);
     if rest <= size {
         return Err(WalkStop::Exceeded);
     }
     *left = (rest - size - 1) as u32;
-    Ok(val)
+    Ok(())
 }
 
 /// Pays for what was made, where it is a value.

@@ -1,4 +1,4 @@
-use Rattle.std.proofs.Common.{◌≡◌, ℕ, ◌+◌, ◌<◌, ◌≤◌, Bool, true, false, Result, List, [], ◌∷◌, ◌++◌, length, drop, refl, sym, subst, ◌∙◌, ap, ◌⊎◌, inl, inr, rules, arith}
+use Rattle.std.proofs.Common.{◌≡◌, ℕ, ◌+◌, ◌<◌, ◌≤◌, true, false, Result, List, [], ◌∷◌, ◌++◌, length, drop, refl, sym, subst, ◌∙◌, ap, ◌⊎◌, inl, inr, rules, arith}
 use Rattle.std.specs.Prelude.{neg_ℤ, if◌then◌else◌}
 use Rattle.std.proofs.Math.Bool.{beq}
 use Rattle.std.proofs.Math.Seq.{take-length}
@@ -21,6 +21,7 @@ use Rattle.pt_eval.specs.Calls.{call_value}
 use Rattle.pt_eval.specs.Value.{value_of, values_of, tail_value, post_value, begun, cost_of, costs_of, tail_cost, post_cost}
 use Rattle.pt_eval.specs.Evaluates.{Evaluates}
 use Rattle.pt_eval.specs.Spends.{Spends}
+use Rattle.pt_eval.specs.Seen.{seen, shown}
 use Rattle.pt_eval.proofs.WalkLemmas.{tail-turn, post-turn, all-turn, sought-turn, begun-here, each-turn, seek-turn, inside-is, cut_back, after-none, only-one, only-two, spends-own, spends-inside, spends-branch, spends-one, spends-two, spends-other}
 use Rattle.pt_eval.proofs.walking.+walk.Goals as goal
 use Rattle.pt_eval.proofs.walking.+walk.Goals.{seek_part-then-is_right+in_ok-spend, seek_part-else-is_right, walk-then-truth+in_ok-val-in-If, walk-else-truth+in_ok-val-in-If-2, walk_call-in_default-via-then-parts-lt1, walk_call-in_default-via-else-parts-lt1+else-parts-lt2+else-parts-lt3}
@@ -51,13 +52,13 @@ walk_tails-loop-tail-preserved t c =
       omega (arith, so.4, turn.1),
     )
 
-pub walk_posts-loop-post-preserved : goal.walk_posts-loop-post-preserved
-walk_posts-loop-post-preserved t c =
+pub see_posts-loop-post-preserved : goal.see_posts-loop-post-preserved
+see_posts-loop-post-preserved t c =
     let so = c.loop-post.invariant in
     let env = c.args.env.now ++ c.args.locals.now in
     let here = rw so.2 at c.in_ok-so_far.ensures.spends in
-    let turn = post-turn c.args.posts.now c.loop-post.post-index c.post-item.result env c.loop-post.so_far c.in_ok-so_far.so_far (omega arith) c.post-item.is here.0 in (
-      so.0 + post_cost (plain_post c.post-item.result) env c.loop-post.so_far,
+    let turn = post-turn c.args.posts.now c.loop-post.post-index c.post-item.result env (seen c.loop-post.so_far) (seen c.in_ok-so_far.so_far) (omega arith) c.post-item.is here.0 in (
+      so.0 + post_cost (plain_post c.post-item.result) env (seen c.loop-post.so_far),
       omega (arith, so.1, here.1),
       c.in_ok-so_far.ensures.locals ∙ so.2,
       so.3 ∙ turn.0,
@@ -188,26 +189,26 @@ walk_tail-returns-clause-spends t c =
     let env = c.args.env.now ++ c.args.locals.now in
     let tail = c.args.tail.now in
     let right = plain_expr tail.right in
-    let given = c.in_ok-right.right in
+    let given = seen c.in_ok-right.right in
     let left = c.args.so_far.now in
     let made : Evaluates (applied tail.op tail.at (number_of left) (number_of given)) c.apply.result = search rules in
     let P : TailTree → Type 0 = λ tree. Spends (tail_value tree env left) (tail_cost tree env left) c.args.left.now c.pay_made.new.left c.pay_made.result in
     subst P (sym (plain-right tail))
-    (spends-own (value_of right env) (cost_of right env) (λ y. applied tail.op tail.at (number_of left) (number_of y)) c.args.left.now c.walk.new.left c.pay_made.new.left given c.pay_made.result
+    (spends-own (value_of right env) (cost_of right env) (λ y. applied tail.op tail.at (number_of left) (number_of y)) c.args.left.now c.see.new.left c.pay_made.new.left given c.pay_made.result
     c.in_ok-right.ensures.spends (c.pay_made.ensures (applied tail.op tail.at (number_of left) (number_of given)) made))
 
-pub walk_post-returns-in_ok-place-in-Index-clause-spends : goal.walk_post-returns-in_ok-place-in-Index-clause-spends
-walk_post-returns-in_ok-place-in-Index-clause-spends t c =
+pub see_post-returns-in_ok-place-in-Index-clause-spends : goal.see_post-returns-in_ok-place-in-Index-clause-spends
+see_post-returns-in_ok-place-in-Index-clause-spends t c =
     let env = c.args.env.now ++ c.args.locals.now in
     let index = plain_expr c.in-Index.place in
     let given = c.in_ok-place-in-Index.place in
-    let base = c.args.so_far in
+    let base = seen c.args.so_far in
     let at = c.in-Index.at in
-    let made : Evaluates (indexed at base (number_of given)) c.index.result = search rules in
-    let P : PostTree → Type 0 = λ tree. Spends (post_value tree env base) (post_cost tree env base) c.args.left.now c.pay_made.new.left c.pay_made.result in
+    let made : Evaluates (indexed at base (number_of given)) (shown c.index.result) = search rules in
+    let P : PostTree → Type 0 = λ tree. Spends (post_value tree env base) (post_cost tree env base) c.args.left.now c.pay_found.new.left (shown c.pay_found.result) in
     subst P (sym (ap plain_post c.in-Index.is ∙ plain-index at c.in-Index.place))
-    (spends-own (value_of index env) (cost_of index env) (λ place. indexed at base (number_of place)) c.args.left.now c.walk.new.left c.pay_made.new.left given c.pay_made.result
-    c.in_ok-place-in-Index.ensures.spends (c.pay_made.ensures (indexed at base (number_of given)) made))
+    (spends-own (value_of index env) (cost_of index env) (λ place. indexed at base (number_of place)) c.args.left.now c.walk.new.left c.pay_found.new.left given (shown c.pay_found.result)
+    c.in_ok-place-in-Index.ensures.spends (c.pay_found.ensures (indexed at base (number_of given)) made))
 
 -- what a call says of its expressions
 abbrev Called : Func → Place → List Expr → List Binding → ℕ → ℕ → Result Val WalkStop → Type 0
@@ -218,11 +219,11 @@ pub walk_call-returns-in_ok-given-in-len1-clause-spends : goal.walk_call-returns
 walk_call-returns-in_ok-given-in-len1-clause-spends t c =
     let env = c.args.env.now ++ c.args.locals.now in
     let part = plain_expr c.given-item.result in
-    let given = c.in_ok-given-in-len1.given in
+    let given = seen c.in_ok-given-in-len1.given in
     let call = λ (values : List Val). call_value c.args.func c.args.at values in
     let P : List Expr → Type 0 = λ parts. Called c.args.func c.args.at parts env c.args.left.now c.pay_made.new.left c.pay_made.result in
     subst P (sym (only-one c.args.parts.now c.given-item.result (omega arith) (omega arith) c.given-item.is))
-    (spends-one (value_of part env) (cost_of part env) call c.args.left.now c.walk.new.left c.pay_made.new.left given c.pay_made.result
+    (spends-one (value_of part env) (cost_of part env) call c.args.left.now c.see.new.left c.pay_made.new.left given c.pay_made.result
     c.in_ok-given-in-len1.ensures.spends (c.pay_made.ensures (call (given ∷ [])) c.call_one.ensures))
 
 pub walk_call-returns-in_ok-other-in-len2-clause-spends : goal.walk_call-returns-in_ok-other-in-len2-clause-spends
@@ -230,12 +231,12 @@ walk_call-returns-in_ok-other-in-len2-clause-spends t c =
     let env = c.args.env.now ++ c.args.locals.now in
     let first = plain_expr c.one-item.result in
     let second = plain_expr c.other-item.result in
-    let given = c.in_ok-one-in-len2.one in
-    let other = c.in_ok-other-in-len2.other in
+    let given = seen c.in_ok-one-in-len2.one in
+    let other = seen c.in_ok-other-in-len2.other in
     let call = λ (values : List Val). call_value c.args.func c.args.at values in
     let P : List Expr → Type 0 = λ parts. Called c.args.func c.args.at parts env c.args.left.now c.pay_made-in-len2.new.left c.pay_made-in-len2.result in
     subst P (sym (only-two c.args.parts.now c.one-item.result c.other-item.result (omega arith) (omega arith) c.one-item.is c.other-item.is))
-    (spends-two (value_of first env) (value_of second env) (cost_of first env) (cost_of second env) call c.args.left.now c.walk-in-len2.new.left c.walk-in-len2-2.new.left
+    (spends-two (value_of first env) (value_of second env) (cost_of first env) (cost_of second env) call c.args.left.now c.see-in-len2.new.left c.see-in-len2-2.new.left
     c.pay_made-in-len2.new.left given other c.pay_made-in-len2.result
     c.in_ok-one-in-len2.ensures.spends (rw c.in_ok-one-in-len2.ensures.locals at c.in_ok-other-in-len2.ensures.spends)
     (c.pay_made-in-len2.ensures (call (given ∷ other ∷ [])) c.call_two.ensures))

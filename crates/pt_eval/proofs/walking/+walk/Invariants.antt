@@ -1,6 +1,7 @@
 use Rattle.std.proofs.Common.{◌≡◌, ℕ, ◌+◌, ◌++◌, Ok, length, take, drop}
 use Rattle.std.specs.Prelude.{if◌then◌else◌}
 use Rattle.pt_ast.specs.Plain.{plain_expr, plain_exprs, plain_tails, plain_posts}
+use Rattle.pt_eval.specs.Seen.{seen}
 use Rattle.pt_eval.specs.Steps.{after, each_gives, each_costs, seek_gives, seek_costs}
 use Rattle.pt_eval.specs.Value.{value_of, values_of, sought_value, chain_value, posts_value, begun, cost_of, costs_of, sought_cost, chain_cost, posts_cost}
 use Rattle.pt_eval.proofs.walking.+walk.Given as goal
@@ -27,11 +28,11 @@ invariant-walk_tails-loop-tail l =
     × (chain_value (plain_tails l.tails) (l.env ++ l.fn.locals) l.fn.first ≡ chain_value (plain_tails (drop l.tail-index l.tails)) (l.env ++ l.fn.locals) l.so_far)
     × (chain_cost (plain_tails l.tails) (l.env ++ l.fn.locals) l.fn.first ≡ spent + chain_cost (plain_tails (drop l.tail-index l.tails)) (l.env ++ l.fn.locals) l.so_far)
 
-abbrev pub invariant-walk_posts-loop-post : goal.invariant-walk_posts-loop-post
-invariant-walk_posts-loop-post l =
+abbrev pub invariant-see_posts-loop-post : goal.invariant-see_posts-loop-post
+invariant-see_posts-loop-post l =
     (spent : ℕ) × (l.fn.left ≡ l.left + spent) × (l.locals ≡ l.fn.locals)
-    × (posts_value (plain_posts l.posts) (l.env ++ l.fn.locals) l.fn.base ≡ posts_value (plain_posts (drop l.post-index l.posts)) (l.env ++ l.fn.locals) l.so_far)
-    × (posts_cost (plain_posts l.posts) (l.env ++ l.fn.locals) l.fn.base ≡ spent + posts_cost (plain_posts (drop l.post-index l.posts)) (l.env ++ l.fn.locals) l.so_far)
+    × (posts_value (plain_posts l.posts) (l.env ++ l.fn.locals) (seen l.fn.base) ≡ posts_value (plain_posts (drop l.post-index l.posts)) (l.env ++ l.fn.locals) (seen l.so_far))
+    × (posts_cost (plain_posts l.posts) (l.env ++ l.fn.locals) (seen l.fn.base) ≡ spent + posts_cost (plain_posts (drop l.post-index l.posts)) (l.env ++ l.fn.locals) (seen l.so_far))
 
 -- so much was spent, and the values of the members that are left come behind these
 abbrev pub invariant-walk_each-loop-member : goal.invariant-walk_each-loop-member

@@ -1,5 +1,4 @@
-use Rattle.std.proofs.Common.{◌≡◌, ℕ, List, Option, Some, None, ◌++◌, sym, ◌∙◌, ap, subst, rules}
-use Rattle.std.specs.Prelude.{IfOk}
+use Rattle.std.proofs.Common.{◌≡◌, ℕ, List, Option, Some, None, ◌++◌, sym, ◌∙◌, ap, rules}
 use Rattle.std.specs.Option.{option_or}
 use Rattle.pt_val.specs.declared.val.Val.{Val}
 use Rattle.pt_ast.specs.declared.binding.Binding.{Binding}
@@ -17,15 +16,13 @@ found name env locals inner outer is_inner is_outer =
 pub returns-in-Some : goal.returns-in-Some
 returns-in-Some c =
     let here : value_in c.args.name.now c.args.locals.now ≡ Some c.in-Some.val.now = search rules in
-    let P : Val → Type 0 = λ v. IfOk c.copy.result (λ val. val ≡ v) in
-    subst P (found c.args.name.now c.args.env.now c.args.locals.now (Some c.in-Some.val.now) _ here (λ i. value_in c.args.name.now c.args.env.now)) c.copy.ensures
+    c.in_ok-copy.ensures ∙ found c.args.name.now c.args.env.now c.args.locals.now (Some c.in-Some.val.now) _ here (λ i. value_in c.args.name.now c.args.env.now)
 
 pub returns-in-Some-newest : goal.returns-in-Some-newest
 returns-in-Some-newest c =
     let none : value_in c.args.name.now c.args.locals.now ≡ None = search rules in
     let here : value_in c.args.name.now c.args.env.now ≡ Some c.in-Some-newest.val.now = search rules in
-    let P : Val → Type 0 = λ v. IfOk c.copy-in-Some-newest.result (λ val. val ≡ v) in
-    subst P (found c.args.name.now c.args.env.now c.args.locals.now None (Some c.in-Some-newest.val.now) none here) c.copy-in-Some-newest.ensures
+    found c.args.name.now c.args.env.now c.args.locals.now None (Some c.in-Some-newest.val.now) none here
 
 pub returns-in-None : goal.returns-in-None
 returns-in-None c =
