@@ -146,12 +146,9 @@ fn reverse_bytes(alloc: Global, bytes: &[u8]) -> Result<Octets, NoMemory>
 fn reverse_members(alloc: Global, members: Vals) -> Result<Vals, NoMemory>
     ensures { IfOk result (λ reversed. reversed ≡ reverse members) }
 {
-    let mut left = Vec::new(alloc);
-    for member in members {
-        left.push(member)?;
-    }
     let mut reversed = Seq::empty(alloc);
-    while let Some(member) = left.pop() {
+    let mut left = members.into_iter();
+    while let Some(member) = left.next_back() {
         reversed.push(member)?;
     }
     Ok(reversed)

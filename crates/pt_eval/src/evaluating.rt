@@ -5,7 +5,7 @@ ghost use Rattle.pt_eval.specs.Value.{evaluated};
 use crate::stop::WalkStop;
 use crate::walking::walk;
 use crate::{Env, EvalStop};
-use pt_ast::Expr;
+use pt_ast::{Expr, ExprKind};
 use pt_case::What;
 use pt_val::Val;
 use std::alloc::Global;
@@ -17,6 +17,10 @@ use std::alloc::Global;
 pub fn eval(alloc: Global, e: &Expr, env: &Env) -> Result<Val, EvalStop>
     ensures { Evaluates (evaluated (plain_expr e.now) env.now) result }
 {
+    // A number, as most bounds are, costs 2.
+    if let ExprKind::Num(number) = &e.kind {
+        return Ok(Val::Int(*number));
+    }
     let mut locals = Env::empty(alloc);
     let mut left = 20_000;
     match walk(alloc, e, env, &mut locals, &mut left) {

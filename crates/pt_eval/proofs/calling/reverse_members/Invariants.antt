@@ -1,13 +1,10 @@
-use Rattle.std.proofs.Common.{◌≡◌, ◌++◌, reverse, vec_len}
+use Rattle.std.proofs.Common.{◌≡◌, ◌++◌, length, reverse}
+use Rattle.std.specs.Vec.Iter.{into_iter_items}
 use Rattle.pt_eval.proofs.calling.reverse_members.Given as goal
 
--- the members so far are set aside
-abbrev pub invariant-loop-member : goal.invariant-loop-member
-invariant-loop-member l = l.left.items ≡ l.yielded
-
 -- those that are left come behind the reversed ones, the last first
-abbrev pub invariant-loop-member-2 : goal.invariant-loop-member-2
-invariant-loop-member-2 l = l.reversed ++ reverse l.left.items ≡ reverse l.fn.members
+abbrev pub invariant-loop-member : goal.invariant-loop-member
+invariant-loop-member l = l.reversed ++ reverse (into_iter_items l.left) ≡ reverse l.fn.members
 
-abbrev pub decreases-loop-member-2 : goal.decreases-loop-member-2
-decreases-loop-member-2 l = vec_len l.left
+abbrev pub decreases-loop-member : goal.decreases-loop-member
+decreases-loop-member l = length (into_iter_items l.left)
