@@ -1,16 +1,15 @@
 -- What a crash leaves in the course of a run, by what the run came to.
-use Rattle.std.proofs.Common.{◌≡◌, ◌⊎◌, inl, inr, ⊎_elim, ℕ, true, false, List, [], ◌++◌, Option, Some, None, refl, sym, subst, append-nil}
+use Rattle.std.proofs.Common.{◌≡◌, ◌⊎◌, inl, inr, ⊎_elim, ℕ, true, false, List, [], Some, None, refl, sym, subst, append-nil}
 use Rattle.pt_choice.specs.declared.choice.Choice.{Choice}
 use Rattle.pt_case.specs.Step.{Answer}
 use Rattle.pt_ast.specs.Trees.{ItemTree}
-use Rattle.pt_db.specs.Attaching.{Attached}
 use Rattle.pt_disk.specs.Files.{Files}
 use Rattle.pt_disk.specs.Folder.{reads, IsImage}
 use Rattle.pt_disk.specs.Leaves.{IsTidy}
-use Rattle.pt_disk.specs.Moments.{Told, now, BothTell, IsImageSince}
+use Rattle.pt_disk.specs.Moments.{Told, now, IsImageSince}
 use Rattle.pt_found.specs.declared.finding.Finding.{Finding}
 use Rattle.pt_stored.specs.Stored.{pending}
-use Rattle.pt_edits.specs.Made.{Made, Settled, SettledAnd}
+use Rattle.pt_edits.specs.Made.{Settled, SettledAnd}
 use Rattle.pt_edits.specs.Pairs.{PairEdit, IsAfterSome}
 use Rattle.pt_edits.specs.declared.stop.TwoValues.{TwoValues}
 use Rattle.pt_edits.proofs.CrashLemmas.{settled-since, settled-and-since, attached-since}
@@ -19,7 +18,7 @@ use Rattle.pt_turns.specs.Crash.{IsMidway}
 use Rattle.pt_turns.specs.Ended.{AreOfNext}
 use Rattle.pt_turns.specs.Finishes.{PartlyDone, IsHalted, IsClashing, IsCut, Finishes, StoppedShort}
 use Rattle.pt_turns.specs.Scene.{Scene}
-use Rattle.pt_turns.specs.Turns.{AreTurns, FirstTurns}
+use Rattle.pt_turns.specs.Turns.{FirstTurns}
 use Rattle.pt_turns.specs.declared.reporting.Reported.{Reported}
 use Rattle.pt_turns.proofs.TurnsLemmas.{first-of-all}
 

@@ -1,15 +1,14 @@
 -- What a crash leaves at the exit of a run, by what the run came to.
-use Rattle.std.proofs.Common.{◌≡◌, ◌≢◌, ◌⊎◌, inl, inr, ⊎_elim, ℕ, zero, suc, ◌<◌, true, false, List, [], ◌∷◌, ◌++◌, length, take, Option, Some, None, refl, sym, ◌∙◌, ap, subst, append-nil, append_assoc, arith}
+use Rattle.std.proofs.Common.{◌≡◌, ◌≢◌, ◌⊎◌, inl, inr, ℕ, zero, suc, ◌<◌, true, false, List, [], ◌∷◌, ◌++◌, length, take, Option, Some, None, refl, sym, ◌∙◌, ap, subst, append-nil, append_assoc, arith}
 use Rattle.std.specs.Prelude.{slice_get}
 use Rattle.std.specs.List.{AllByRecursion}
 use Rattle.pt_choice.specs.declared.choice.Choice.{Choice}
 use Rattle.pt_case.specs.Step.{Answer}
 use Rattle.pt_ast.specs.Trees.{ItemTree}
-use Rattle.pt_db.specs.Attaching.{Attached}
 use Rattle.pt_disk.specs.Files.{Files}
 use Rattle.pt_disk.specs.Folder.{reads, IsImage}
 use Rattle.pt_disk.specs.Leaves.{IsTidy}
-use Rattle.pt_disk.specs.Moments.{Told, now, BothTell}
+use Rattle.pt_disk.specs.Moments.{Told, now}
 use Rattle.pt_found.specs.declared.finding.Finding.{Finding}
 use Rattle.pt_stored.specs.Stored.{pending}
 use Rattle.pt_stored.proofs.SetLemmas.{same-stored}
@@ -21,7 +20,7 @@ use Rattle.pt_edits.proofs.UnderLemmas.{all-first, edits-under}
 use Rattle.pt_turns.specs.Blocks.{AreWritten}
 use Rattle.pt_turns.specs.Crash.{IsMidway, IsAtExit, IsAtEnd}
 use Rattle.pt_turns.specs.Ended.{AreOfNext}
-use Rattle.pt_turns.specs.Finishes.{PartlyDone, IsHalted, IsCut, Finishes, StoppedShort, all_passed, status_of}
+use Rattle.pt_turns.specs.Finishes.{PartlyDone, IsHalted, IsCut, Finishes, StoppedShort}
 use Rattle.pt_turns.specs.Kept.{AreKept, AreStillKept}
 use Rattle.pt_turns.specs.Scene.{Scene}
 use Rattle.pt_turns.specs.Turn.{digest_of}
@@ -113,6 +112,22 @@ module _ {C : Type 0} (name : C → List ℕ) (step : C → List Choice → Answ
       exit.stored,
     );
   }
+
+  -- where all items had their turns, an exit leaves all their edits
+  pub end-exit : (findings : List Finding) (start : Told) (image : Files) → IsAtEnd name step checks seed items findings start image →
+      IsAtExit name step checks seed items findings start image
+  end-exit findings start image (edits, turns, stored) =
+      let P : List PairEdit → Type 0 = λ all. IsAfter all (reads (now start)) image in
+      record {
+        edits = edits;
+        turns = first-of-all name step checks seed (Some start) items findings edits turns;
+        more = [];
+        of_next = inl refl;
+        made = [];
+        left = [];
+        parts = refl;
+        stored = subst P (sym (append-nil edits)) stored;
+      }
 
   -- ---- what a run came to
 

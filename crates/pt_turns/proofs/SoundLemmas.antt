@@ -1,7 +1,6 @@
 -- Of a whole run nothing is lost and nothing is invented.
-use Rattle.std.proofs.Common.{◌≡◌, ◌⊎◌, inl, inr, ⊎_elim, ℕ, ◌<◌, zero, suc, Bool, true, false, List, [], ◌∷◌, ◌++◌, length, take, drop, Option, Some, None, refl, sym, ◌∙◌, subst, arith}
+use Rattle.std.proofs.Common.{◌≡◌, ◌⊎◌, inl, inr, ⊎_elim, ℕ, zero, suc, Bool, List, [], ◌∷◌, ◌++◌, length, take, Option, Some, None, refl, sym, ◌∙◌, subst, arith}
 use Rattle.std.specs.Prelude.{Contains, slice_get, ⊤}
-use Rattle.std.proofs.lemmas.List.{take-append-drop}
 use Rattle.std.proofs.lemmas.Option.{slice_get_within, get_or_from_slice_get}
 use Rattle.pt_choice.specs.declared.choice.Choice.{Choice}
 use Rattle.pt_case.specs.Ending.{is_failure}
@@ -20,10 +19,9 @@ use Rattle.pt_disk.specs.Moments.{Told, now}
 use Rattle.pt_found.specs.declared.finding.Finding.{Finding}
 use Rattle.pt_engine.specs.Finding.{IsFinding, ReplaysItself}
 use Rattle.pt_stored.specs.Stored.{IsStored}
-use Rattle.pt_wire.specs.Stored.{Stored}
 use Rattle.pt_wire.specs.Unpacked.{IsUnpacked}
 use Rattle.pt_wire.specs.declared.unpacking.Unpacked.{Unpacked}
-use Rattle.pt_edits.specs.Pairs.{PairEdit, IsAfter}
+use Rattle.pt_edits.specs.Pairs.{PairEdit}
 use Rattle.pt_edits.specs.Readings.{lists_of}
 use Rattle.pt_turns.specs.Crash.{IsMidway}
 use Rattle.pt_turns.specs.Differences.{OfKey, Fails, MayGo, NothingIsLost, NothingIsInvented}

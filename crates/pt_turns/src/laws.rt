@@ -97,11 +97,13 @@ pub fn an_exit_leaves_the_turns<C: Check>(checks: &[C])
         → (findings : List Finding) × AreWritten findings old.sink.bytes new.sink.bytes × IsAtExit C.name C.step checks.now seed items findings start image }
 {}
 
-/// What an exit leaves: each failure that was shown is stored, in version 2, unless a later item's name has the digest of its item's name. And an exit
-/// is a moment of the run.
+/// What an exit leaves: each failure that was shown is stored, in version 2, unless a later item's name has the digest of its item's name. An exit
+/// is a moment of the run, and where all items had their turns it leaves all their edits.
 pub fn an_exit_keeps_what_was_shown<C: Check>(checks: &[C])
     ensures kept { (seed : ℕ) (items : List ItemTree) (findings : List Finding) (start : Told) (image : Files)
         → IsAtExit C.name C.step checks.now seed items findings start image → AreStillKept image items findings }
     ensures midway { (seed : ℕ) (items : List ItemTree) (findings : List Finding) (start : Told) (image : Files)
         → IsAtExit C.name C.step checks.now seed items findings start image → IsMidway C.name C.step checks.now seed items findings start image }
+    ensures end { (seed : ℕ) (items : List ItemTree) (findings : List Finding) (start : Told) (image : Files)
+        → IsAtEnd C.name C.step checks.now seed items findings start image → IsAtExit C.name C.step checks.now seed items findings start image }
 {}
