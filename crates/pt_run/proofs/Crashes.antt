@@ -1,5 +1,5 @@
 -- What a crash leaves of a run.
-use Rattle.std.proofs.Common.{◌≡◌, ◌⊎◌, inl, inr, ⊎_elim, ℕ, ◌<◌, List, [], Option, Some, sym, ◌∙◌, ap, subst, arith, Global}
+use Rattle.std.proofs.Common.{◌≡◌, ◌⊎◌, inl, inr, ⊎_elim, ℕ, ◌<◌, List, [], Some, sym, ◌∙◌, ap, subst, arith, Global}
 use Rattle.std.specs.Prelude.{String, map}
 use Rattle.pt_choice.specs.declared.choice.Choice.{Choice}
 use Rattle.pt_ast.specs.Trees.{ItemTree, SuiteTree}
@@ -15,7 +15,7 @@ use Rattle.pt_turns.specs.Crash.{IsMidway, IsAtExit}
 use Rattle.pt_turns.specs.Finishes.{Finishes, StoppedShort}
 use Rattle.pt_turns.specs.Scene.{DiskShown}
 use Rattle.pt_turns.proofs.CrashLemmas.{finished-left, stopped-left}
-use Rattle.pt_turns.proofs.ExitLemmas.{exit-kept, exit-midway, finished-exit, finished-end, stopped-exit}
+use Rattle.pt_turns.proofs.ExitLemmas.{exit-kept, exit-midway, end-exit, finished-exit, finished-end, stopped-exit}
 use Rattle.pt_turns.proofs.SoundLemmas.{nothing-lost, nothing-invented}
 use Rattle.pt_run.specs.declared.message.Message.TheVariants.{Refused}
 use Rattle.pt_run.specs.Call.{Call, Answers}
@@ -132,12 +132,11 @@ module _ {C : Type 0} (name : C → List ℕ) (step : C → List Choice → Answ
       left-at-end below is = of_came (came call file seed workers answers asks)
         where
           of_came : CameTo call file seed → IsLeftAtEnd name step checks seed file call.before call.after call.finish.findings old image
-          of_came (inl (suite, taken, finishes)) = (
-            suite,
-            taken,
-            finished-end name step checks seed suite.items old new image tidy is (scene_of call.before) (scene_of call.after) told telling
-                (reported_of call.finish) finishes below,
-          )
+          of_came (inl (suite, taken, finishes)) =
+              let findings = call.finish.findings in
+              let end = finished-end name step checks seed suite.items old new image tidy is (scene_of call.before) (scene_of call.after) told telling
+              (reported_of call.finish) finishes below in
+              (suite, taken, (end, left seed findings old image suite.items (end-exit name step checks seed suite.items findings old image end)))
           of_came (inr (none, above, rests)) = absurd (above below)
 
     module _ (words : List (String Global)) (before after : Outside) (file : List ℕ) (seed workers : ℕ) (short : EndsShort name step checks words before after)

@@ -41,7 +41,7 @@ module _ {C : Type 0} (name : C → List ℕ) (step : C → List Choice → Answ
     IsLeftAtExit file before after findings start image =
         ((findings ≡ []) × IsImage (now start) image) ⊎ OfTaken file before after (IsLeft findings start image)
 
-    -- What a crash leaves at the end of a run that had all its turns.
+    -- What a crash leaves at the end of a run that had all its turns: what has all their edits, and no others.
     abbrev pub IsLeftAtEnd : List ℕ → Outside → Outside → List Finding → Told → Files → Type 0
-    IsLeftAtEnd file before after findings start image =
-        OfTaken file before after (λ items. IsAtEnd name step checks seed items findings start image)
+    IsLeftAtEnd file before after findings start image = OfTaken file before after (λ items.
+        IsAtEnd name step checks seed items findings start image × IsLeft findings start image items)
