@@ -13,7 +13,7 @@ use std::thread::Threads;
 /// The records of the runs `from` up to but without `to`, in order, whatever the number of workers.
 ///
 /// Runs are numbered from 0, and those of one seed are the same in every call. A worker makes a stretch of them, and none
-/// is started for an empty one.
+/// is started for an empty one. A single worker makes them one after another, with no list but that of the records.
 ///
 /// # Errors
 ///
@@ -32,11 +32,14 @@ pub fn batch<R: Threads + Sync, C: Check>(
     requires workers { (1 ≤ workers) × (workers ≤ 16) }
     ensures { IfOk result (λ records. AreRuns (C.step check.now) seed from to records) }
 {
+    if workers == 1 {
+        return made_from(alloc, check, seed, from, to);
+    }
     let size = share_size(to - from, u64::from(workers));
     let count = share_count(to - from, size, u64::from(workers));
-    let made = |worker: usize| -> Result<Vec<Record>, NoMemory>
+    let made = |worker: usize| -> Result<Records, NoMemory>
         requires { (from ≤ to) × (to ≤ from + 1024) × (size ≤ 1024) × (worker < 16) }
-        ensures { IfOk result (λ made. IsStretch (C.step check.entry.now) seed from to size worker made.items) }
+        ensures { IfOk result (λ made. IsStretch (C.step check.entry.now) seed from to size worker made) }
     { share(alloc, check, seed, from, to, size, worker) };
     let shares = thread::map_indices(rt, alloc, count as usize, &made)?;
     gathered(alloc, check, seed, from, to, size, shares)
@@ -85,9 +88,9 @@ fn share<C: Check>(
     to: u64,
     size: u64,
     worker: usize,
-) -> Result<Vec<Record>, NoMemory>
+) -> Result<Records, NoMemory>
     requires { (from ≤ to) × (to ≤ from + 1024) × (size ≤ 1024) × (worker < 16) }
-    ensures { IfOk result (λ made. IsStretch (C.step check.now) seed from to size worker made.items) }
+    ensures { IfOk result (λ made. IsStretch (C.step check.now) seed from to size worker made) }
 {
     let first = start(from, to, size, worker);
     let end = start(from, to, size, worker + 1);
@@ -101,12 +104,12 @@ fn made_from<C: Check>(
     seed: u64,
     from: u64,
     to: u64,
-) -> Result<Vec<Record>, NoMemory>
+) -> Result<Records, NoMemory>
     requires { from ≤ to }
-    ensures { IfOk result (λ made. AreRuns (C.step check.now) seed from to made.items) }
+    ensures { IfOk result (λ made. AreRuns (C.step check.now) seed from to made) }
 {
     let alone = to - from == 1;
-    let mut made = Vec::new(alloc);
+    let mut made = Records::empty(alloc);
     for run in from..to {
         made.push(make(alloc, check, seed, run, alone)?)?;
     }
@@ -153,12 +156,12 @@ fn gathered<C: Check>(
     from: u64,
     to: u64,
     size: u64,
-    shares: Vec<Result<Vec<Record>, NoMemory>>,
+    shares: Vec<Result<Records, NoMemory>>,
 ) -> Result<Records, NoMemory>
     requires in_order { from ≤ to }
     requires all { to ≤ from + vec_len shares * size }
     requires each { (i : ℕ) (d : _) → i < vec_len shares → IfOk (slice_index_or shares.items i d) (λ made.
-        IsStretch (C.step check.now) seed from to size i made.items) }
+        IsStretch (C.step check.now) seed from to size i made) }
     ensures { IfOk result (λ records. AreRuns (C.step check.now) seed from to records) }
 {
     let mut records = Records::empty(alloc);
@@ -169,8 +172,8 @@ fn gathered<C: Check>(
 }
 
 // The records so far, and after them those of a share.
-fn append(records: &mut Records, made: Vec<Record>) -> Result<(), NoMemory>
-    ensures { OnOk result (records.new ≡ records.old ++ made.items) }
+fn append(records: &mut Records, made: Records) -> Result<(), NoMemory>
+    ensures { OnOk result (records.new ≡ records.old ++ made) }
 {
     for rec in made {
         records.push(rec)?;

@@ -3,4 +3,4 @@ use Rattle.pt_par.proofs.runs.made_from.Goals as goal
 
 pub loop-run-preserved : goal.loop-run-preserved
 loop-run-preserved g c =
-    rw c.in_ok-push.ensures.items (runs-push _ _ _ _ _ _ c.loop-run.invariant c.in_ok-make.ensures)
+    rw c.in_ok-push.ensures.ok (runs-push _ _ _ _ _ _ c.loop-run.invariant c.in_ok-make.ensures)
