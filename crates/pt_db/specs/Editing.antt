@@ -1,30 +1,31 @@
 -- What a save and a delete do to a folder and its stored set.
-use Rattle.std.specs.Prelude.{◌≡◌, ◌≢◌, ◌⊎◌, ℕ, Bool, true, List, Option}
-use Rattle.pt_disk.specs.Files.{Files}
+use Rattle.std.specs.Prelude.{◌≡◌, ◌⊎◌, ℕ, Bool, true, List, Option, Some, None}
+use Rattle.pt_disk.specs.Files.{Files, SameBut, with_file}
 use Rattle.pt_disk.specs.Folder.{Folder, After, after_rename, reads, IsImage}
 use Rattle.pt_disk.specs.Moments.{Told, now, Elapsed, BothTell}
-use Rattle.pt_disk.specs.Leaves.{Leaves, IsAtRest}
+use Rattle.pt_disk.specs.Leaves.{Leaves, OneOf, IsAtRest}
 use Rattle.pt_disk.specs.declared.change.Change.TheVariants.{Put, Sync, Remove, Settle}
 use Rattle.pt_stored.specs.Digest.{digest_text, file_name}
-use Rattle.pt_stored.specs.Stored.{SameStored, StoredWith, StoredWithout, pending}
+use Rattle.pt_stored.specs.Stored.{StoredWith, StoredWithout, pending}
 
--- A crash leaves the stored set of these files, or that with the edit, and no file but the spare one has a put that was not synced.
-abbrev pub LeavesEither : (Files → Files → Type 0) → Files → Folder → Type 0
-LeavesEither Edit files = Leaves pending (λ image. SameStored files image ⊎ Edit files image)
+-- A crash leaves these files, or these with that file under the name, and then their stored set has the edit; the spare file aside. And no file but
+-- the spare one has a put that was not synced.
+abbrev pub LeavesEither : (Files → Files → Type 0) → List ℕ → Option (List ℕ) → Files → Folder → Type 0
+LeavesEither Edit name file files = Leaves pending (λ image. SameBut pending files image ⊎ (Edit files image × SameBut pending (with_file name file files) image))
 
--- A call that edits the stored set, whatever it answers.
-pub record Edited (Edit : Files → Files → Type 0) (name : List ℕ) (ok : Bool) (old new : Told) : Type 0 where
+-- A call that edits the stored set by that file under the name, whatever it answers.
+pub record Edited (Edit : Files → Files → Type 0) (name : List ℕ) (file : Option (List ℕ)) (ok : Bool) (old new : Told) : Type 0 where
   pub edited : ok ≡ true → Edit (reads (now old)) (reads (now new))
-  -- the files but this one read as before
-  pub others : ok ≡ true → (other : List ℕ) → other ≢ pending → other ≢ name → reads (now new) other ≡ reads (now old) other
+  -- the files read as before, but perhaps this one, which is that file then
+  pub files : ok ≡ true → OneOf pending name file (reads (now old)) (reads (now new))
   -- where the disk was at rest at the start: it is at rest again, and a crash keeps the edit
   pub rests : IsAtRest pending (now old) → ok ≡ true → IsAtRest pending (now new)
   pub kept : IsAtRest pending (now old) → ok ≡ true → (image : Files) → IsImage (now new) image → Edit (reads (now old)) image
-  -- and at each moment since the start a crash leaves the stored set from then, or with the edit
-  pub any_moment : IsAtRest pending (now old) → Elapsed (LeavesEither Edit (reads (now old))) old new
+  -- and at each moment since the start a crash leaves the files from then, or these with the edit
+  pub any_moment : IsAtRest pending (now old) → Elapsed (LeavesEither Edit name file (reads (now old))) old new
 
-abbrev pub Edits : (Files → Files → Type 0) → List ℕ → Bool → Option Told → Option Told → Type 0
-Edits Edit name ok = BothTell (Edited Edit name ok)
+abbrev pub Edits : (Files → Files → Type 0) → List ℕ → Option (List ℕ) → Bool → Option Told → Option Told → Type 0
+Edits Edit name file ok = BothTell (Edited Edit name file ok)
 
 -- the name of the file of this value under this key
 abbrev pub name_of : List ℕ → List ℕ → List ℕ
@@ -32,10 +33,10 @@ name_of key value = file_name (digest_text key) value
 
 -- the stored set gets this value of this key, and loses it
 abbrev pub Saves : List ℕ → List ℕ → Bool → Option Told → Option Told → Type 0
-Saves key value = Edits (StoredWith (digest_text key) value) (name_of key value)
+Saves key value = Edits (StoredWith (digest_text key) value) (name_of key value) (Some value)
 
 abbrev pub Deletes : List ℕ → List ℕ → Bool → Option Told → Option Told → Type 0
-Deletes key value = Edits (StoredWithout (digest_text key) value) (name_of key value)
+Deletes key value = Edits (StoredWithout (digest_text key) value) (name_of key value) None
 
 -- at each moment since the start the folder is as it was then, where this holds of what reads gave
 abbrev pub RestsWhere : (Files → Type 0) → Option Told → Option Told → Type 0

@@ -17,7 +17,7 @@ kept-since : (done made : List PairEdit) (d b : List ℕ) (old mid : Option Told
 kept-since done made d b None None both kept = tt
 kept-since done made d b (Some old) (Some mid) both kept =
     (after-all-append done made (IsStored (reads (now old))) d b).1
-    ((after-all-same made (IsStored (reads (now mid))) (after_all done (IsStored (reads (now old)))) (both.edited refl) d b).0 kept)
+    ((after-all-same made (IsStored (reads (now mid))) (after_all done (IsStored (reads (now old)))) (both.edited refl).stored d b).0 kept)
 kept-since done made d b None (Some mid) both kept = absurd both
 kept-since done made d b (Some old) None both kept = absurd both
 

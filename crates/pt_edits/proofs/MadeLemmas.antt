@@ -1,6 +1,5 @@
 -- How edits that were made follow one another.
-use Rattle.std.proofs.Common.{◌⊎◌, inl, inr, Bool, true, false, List, [], ◌++◌, Option, refl, sym, ◌∙◌, ap, subst}
-use Rattle.std.specs.Prelude.{◌↔◌}
+use Rattle.std.proofs.Common.{◌⊎◌, inl, inr, Bool, true, false, List, [], ◌++◌, Option, refl, sym, ap, subst}
 use Rattle.pt_disk.specs.Files.{SameBut}
 use Rattle.pt_disk.specs.Folder.{Folder, reads, IsImage}
 use Rattle.pt_disk.specs.Moments.{Told, now, Elapsed, BothTell}
@@ -8,8 +7,7 @@ use Rattle.pt_disk.specs.Calls.{Rests}
 use Rattle.pt_disk.specs.Leaves.{Leaves, IsAtRest, IsTidy}
 use Rattle.pt_disk.proofs.Folders.{leaves-weaker}
 use Rattle.pt_disk.proofs.Times.{elapsed-then, elapsed-weaker}
-use Rattle.pt_stored.specs.Stored.{IsStored, SameStored, pending}
-use Rattle.pt_stored.proofs.SetLemmas.{same-stored}
+use Rattle.pt_stored.specs.Stored.{pending}
 use Rattle.pt_db.specs.Attaching.{Attached}
 use Rattle.pt_db.proofs.Telling.{both-then, both-weaker, IsAsAt, rested}
 use Rattle.pt_edits.specs.Pairs.{PairEdit, IsAfterSome}
@@ -20,19 +18,18 @@ use Rattle.pt_edits.proofs.SetLemmas.{is-after-none, is-after-then, is-after-fro
 abbrev pub LeavesSome : List PairEdit → Folder → Folder → Type 0
 LeavesSome edits start = Leaves pending (IsAfterSome edits (reads start))
 
--- a folder at rest has the stored set of its start
+-- of a folder at rest a crash leaves the files of its start
 pub rest-some : (edits : List PairEdit) (folder : Folder) → IsAtRest pending folder → LeavesSome edits folder folder
 rest-some edits folder =
     leaves-weaker pending (SameBut pending (reads folder)) (IsAfterSome edits (reads folder)) folder
-    (λ image but. ([], edits, refl, is-after-none (reads folder) image (same-stored (reads folder) image but)))
+    (λ image but. ([], edits, refl, is-after-none (reads folder) image but))
 
 -- where the folder rests, no edit was made
 pub made-none : (ok : Bool) (old new : Told) → Elapsed (IsAsAt old) old new → Made [] ok old new
 made-none ok old new elapsed =
     let same = rested old new elapsed in
     record {
-      edited = λ went d b. subst (λ (f : Folder). IsStored (reads f) d b ↔ IsStored (reads (now old)) d b) (sym same) (λ has. has, λ has. has);
-      foreign = λ went name spare other. ap (λ (f : Folder). reads f name) same;
+      edited = λ went. is-after-none (reads (now old)) (reads (now new)) (λ name other. ap (λ (f : Folder). reads f name) same);
       rests = λ rests went. subst (IsAtRest pending) (sym same) rests;
       any_moment = λ rests. elapsed-weaker (IsAsAt old) (LeavesSome [] (now old)) old new
           (λ folder is. subst (LeavesSome [] (now old)) (sym is) (rest-some [] (now old) rests))
@@ -43,7 +40,6 @@ made-none ok old new elapsed =
 pub made-some : (edits : List PairEdit) (old new : Told) → Made edits true old new → Made edits false old new
 made-some edits old new made = record {
   edited = λ went. absurd (cc went);
-  foreign = λ went. absurd (cc went);
   rests = λ rests went. absurd (cc went);
   any_moment = made.any_moment;
 }
@@ -52,7 +48,6 @@ made-some edits old new made = record {
 pub made-first : (one more : List PairEdit) (old new : Told) → Made one false old new → Made (one ++ more) false old new
 made-first one more old new made = record {
   edited = λ went. absurd (cc went);
-  foreign = λ went. absurd (cc went);
   rests = λ rests went. absurd (cc went);
   any_moment = λ rests. elapsed-weaker (LeavesSome one (now old)) (LeavesSome (one ++ more) (now old)) old new
       (λ folder. leaves-weaker pending (IsAfterSome one (reads (now old))) (IsAfterSome (one ++ more) (reads (now old))) folder
@@ -67,7 +62,6 @@ made-then one more ok old mid new first second =
     let half = reads (now mid) in
     record {
       edited = λ went. is-after-then one more start half (reads (now new)) (first.edited refl) (second.edited went);
-      foreign = λ went name spare other. second.foreign went name spare other ∙ first.foreign refl name spare other;
       rests = λ rests went. second.rests (first.rests rests refl) went;
       any_moment = λ rests. elapsed-then (LeavesSome (one ++ more) (now old)) old mid new
           (elapsed-weaker (LeavesSome one (now old)) (LeavesSome (one ++ more) (now old)) old mid
@@ -81,9 +75,9 @@ made-then one more ok old mid new first second =
 
 -- ---- after an attach
 
--- the files that are read, and so the stored set, are as before
-pub after-settle : (old new : Told) → Attached true old new → SameStored (reads (now old)) (reads (now new))
-after-settle old new attached = same-stored (reads (now old)) (reads (now new)) (λ name other. attached.same refl name)
+-- the files that are read are as before
+pub after-settle : (old new : Told) → Attached true old new → SameBut pending (reads (now old)) (reads (now new))
+after-settle old new attached = λ name other. attached.same refl name
 
 abbrev pub LeavesOrSome : List PairEdit → Folder → Folder → Type 0
 LeavesOrSome edits start = Leaves pending (λ image. IsImage start image ⊎ IsAfterSome edits (reads start) image)
@@ -105,7 +99,6 @@ settled-of edits ok old mid new attached made =
     let same = after-settle old mid attached in
     record {
       edited = λ went. is-after-from edits start half (reads (now new)) same (made.edited went);
-      foreign = λ went name spare other. made.foreign went name spare other ∙ attached.same refl name;
       rests = λ tidy went. made.rests (attached.rests tidy refl) went;
       any_moment = λ tidy. elapsed-then (LeavesOrSome edits (now old)) old mid new
           (settling edits true old mid attached tidy)
@@ -119,7 +112,6 @@ settled-of edits ok old mid new attached made =
 pub settled-not : (edits : List PairEdit) (old new : Told) → Attached false old new → Settled edits false old new
 settled-not edits old new attached = record {
   edited = λ went. absurd (cc went);
-  foreign = λ went. absurd (cc went);
   rests = λ tidy went. absurd (cc went);
   any_moment = λ tidy. settling edits false old new attached tidy;
 }

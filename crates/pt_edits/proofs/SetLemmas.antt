@@ -1,9 +1,11 @@
 -- Sets of stored pairs after edits.
 use Rattle.std.proofs.Common.{inl, inr, ⊎_elim, ℕ, List, [], ◌∷◌, ◌++◌, sym, ◌∙◌, ap, append_assoc}
 use Rattle.std.specs.Prelude.{◌↔◌}
-use Rattle.pt_disk.specs.Files.{Files}
-use Rattle.pt_stored.specs.Stored.{IsStored, SameStored}
-use Rattle.pt_edits.specs.Pairs.{Pairs, PairEdit, SavePair, DeletePair, after, after_all, IsAfter, IsAfterSome}
+use Rattle.std.proofs.lemmas.List.Elements.{Contains-append_left, Contains-append_right}
+use Rattle.pt_disk.specs.Files.{Files, SameBut}
+use Rattle.pt_stored.specs.Stored.{IsStored, pending}
+use Rattle.pt_stored.proofs.SetLemmas.{same-stored}
+use Rattle.pt_edits.specs.Pairs.{Pairs, PairEdit, SavePair, DeletePair, after, after_all, ChangedBy, IsAfter, IsAfterSome}
 
 after-same : (edit : PairEdit) (S T : Pairs) → ((d b : List ℕ) → S d b ↔ T d b) → (d b : List ℕ) → after edit S d b ↔ after edit T d b
 after-same (SavePair digest bytes) S T same d b = (
@@ -24,20 +26,33 @@ after-all-append (edit ∷ one) more S d b = after-all-append one more (after ed
 
 -- ---- of files
 
-pub is-after-none : (old new : Files) → SameStored old new → IsAfter [] old new
-is-after-none old new same = same
+-- the files are the same but for the spare one
+pub is-after-none : (old new : Files) → SameBut pending old new → IsAfter [] old new
+is-after-none old new same = record { stored = same-stored old new same; files = λ name other. inl (same name other) }
+
+changed-then : (one more : List PairEdit) (old mid new : Files) → ChangedBy one old mid → ChangedBy more mid new → ChangedBy (one ++ more) old new
+changed-then one more old mid new first second name other = ⊎_elim
+    (λ same. ⊎_elim
+    (λ before. inl (same ∙ before))
+    (λ (edit, within, is, left). inr (edit, Contains-append_left one more edit within, is, same ∙ left))
+    (first name other))
+    (λ (edit, within, is, left). inr (edit, Contains-append_right one more edit within, is, left))
+    (second name other)
 
 pub is-after-then : (one more : List PairEdit) (old mid new : Files) → IsAfter one old mid → IsAfter more mid new → IsAfter (one ++ more) old new
-is-after-then one more old mid new first second d b =
-    let changed = after-all-same more (IsStored mid) (after_all one (IsStored old)) first d b in
-    let joined = after-all-append one more (IsStored old) d b in (
-      λ stored. joined.1 (changed.0 ((second d b).0 stored)),
-      λ left. (second d b).1 (changed.1 (joined.0 left)),
-    )
+is-after-then one more old mid new first second = record {
+  stored = λ d b.
+      let changed = after-all-same more (IsStored mid) (after_all one (IsStored old)) first.stored d b in
+      let joined = after-all-append one more (IsStored old) d b in (
+        λ stored. joined.1 (changed.0 ((second.stored d b).0 stored)),
+        λ left. (second.stored d b).1 (changed.1 (joined.0 left)),
+      );
+  files = changed-then one more old mid new first.files second.files;
+}
 
--- the files at the start store the same
-pub is-after-from : (edits : List PairEdit) (old mid new : Files) → SameStored old mid → IsAfter edits mid new → IsAfter edits old new
-is-after-from edits old mid new same edited = is-after-then [] edits old mid new same edited
+-- the files at the start are the same
+pub is-after-from : (edits : List PairEdit) (old mid new : Files) → SameBut pending old mid → IsAfter edits mid new → IsAfter edits old new
+is-after-from edits old mid new same edited = is-after-then [] edits old mid new (is-after-none old mid same) edited
 
 pub some-of-first : (one more : List PairEdit) (old image : Files) → IsAfterSome one old image → IsAfterSome (one ++ more) old image
 some-of-first one more old image (made, left, parts, edited) =
@@ -51,5 +66,5 @@ some-of-more one more old mid image first (made, left, parts, edited) = (
   is-after-then one made old mid image first edited,
 )
 
-pub some-from : (edits : List PairEdit) (old mid image : Files) → SameStored old mid → IsAfterSome edits mid image → IsAfterSome edits old image
-some-from edits old mid image same = some-of-more [] edits old mid image same
+pub some-from : (edits : List PairEdit) (old mid image : Files) → SameBut pending old mid → IsAfterSome edits mid image → IsAfterSome edits old image
+some-from edits old mid image same = some-of-more [] edits old mid image (is-after-none old mid same)

@@ -138,7 +138,7 @@ module _ (digest : List ℕ) (fails : List Choice → Bool) (verdict : Verdict) 
       nothing-invented d b has = ⊎_elim
           (λ was. inl was)
           (λ saved. inr (reason-of (SavePair d b) saved))
-          (was-or-saved made (IsStored old) d b ((edited d b).0 has))
+          (was-or-saved made (IsStored old) d b ((edited.stored d b).0 has))
 
       module _ (spelled : All IsSpelled all) where
         spells : (reading : Reading) → Contains all reading → IsUnpacked reading.bytes reading.unpacked
@@ -167,13 +167,13 @@ module _ (digest : List ℕ) (fails : List Choice → Bool) (verdict : Verdict) 
               first,
               fresh,
               stored,
-              (edited digest fresh).1 (saved-stays made (IsStored old) digest fresh saved (never-deleted unpacked.list fresh stored unpacks.0.1 failing)),
+              (edited.stored digest fresh).1 (saved-stays made (IsStored old) digest fresh saved (never-deleted unpacked.list fresh stored unpacks.0.1 failing)),
             ))
             reason
 
         pub nothing-lost : NothingIsLost digest fails all old new
         nothing-lost d b was = ⊎_elim
-            (λ has. inl ((edited d b).1 has))
+            (λ has. inl ((edited.stored d b).1 has))
             (λ deleted.
             let (its, reading, within, is, reason) = reason-of (DeletePair d b) deleted in
             inr (its, (reading, within, is, may-go reading.bytes reading.unpacked (spells reading within) reason)))
@@ -190,4 +190,4 @@ shown-stored digest fails all shown found spent edits old new spelled failing ar
     subst (λ (l : List PairEdit). IsIn (SavePair digest fresh) l) (sym (parts ∙ ap (λ (l : List PairEdit). l ++ rest) is)) (inl refl) in
     let never = never-deleted digest fails (Failed shown found spent) all edits edits [] are whole old new edited spelled shown.choices fresh stored
     shown.few_choices failing in
-    (fresh, stored, (edited digest fresh).1 (saved-stays edits (IsStored old) digest fresh saved never))
+    (fresh, stored, (edited.stored digest fresh).1 (saved-stays edits (IsStored old) digest fresh saved never))

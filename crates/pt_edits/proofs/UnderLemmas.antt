@@ -66,4 +66,4 @@ module _ (digest : List ℕ) where
   pub same-elsewhere : (edits : List PairEdit) (old new : Files) → AreUnder digest edits → IsAfterSome edits old new → SameElsewhere digest old new
   same-elsewhere edits old new under (made, left, parts, edited) d b other =
       let same = after-all-other made (IsStored old) d b (all-first (λ edit. digest_of edit ≡ digest) made left (subst (AreUnder digest) parts under)) other in
-      (λ has. same.0 ((edited d b).0 has), λ was. (edited d b).1 (same.1 was))
+      (λ has. same.0 ((edited.stored d b).0 has), λ was. (edited.stored d b).1 (same.1 was))

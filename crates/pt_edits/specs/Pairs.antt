@@ -1,8 +1,9 @@
 -- Sets of stored pairs, and edits of them.
-use Rattle.std.specs.Prelude.{◌≡◌, ◌⊎◌, ◌↔◌, ℕ, List, [], ◌∷◌, ◌++◌}
+use Rattle.std.specs.Prelude.{◌≡◌, ◌≢◌, ◌⊎◌, ◌↔◌, ℕ, List, [], ◌∷◌, ◌++◌, Contains, Option, Some, None}
 use Rattle.std.specs.List.{AllByRecursion}
 use Rattle.pt_disk.specs.Files.{Files}
-use Rattle.pt_stored.specs.Stored.{IsStored, IsPair}
+use Rattle.pt_stored.specs.Digest.{file_name}
+use Rattle.pt_stored.specs.Stored.{IsStored, IsPair, pending}
 use Rattle.pt_edits.specs.declared.edit.Edit.{Edit}
 use Rattle.pt_edits.specs.declared.edit.Edit.TheVariants.{Save, Delete}
 
@@ -43,9 +44,27 @@ after_all [] S = S
 after_all (edit ∷ edits) S = after_all edits (after edit S)
 
 -- the new files store what the old ones do, after these edits
-abbrev pub IsAfter : List PairEdit → Files → Files → Type 0
-IsAfter edits old new = (d b : List ℕ) → IsStored new d b ↔ after_all edits (IsStored old) d b
+abbrev pub StoresAfter : List PairEdit → Files → Files → Type 0
+StoresAfter edits old new = (d b : List ℕ) → IsStored new d b ↔ after_all edits (IsStored old) d b
 
--- the new files store what the old ones do, after some first ones of these edits
+-- the file of an edit's value, and what the edit leaves of it: the whole value, or none
+abbrev pub file_of : PairEdit → List ℕ
+file_of edit = file_name (digest_of edit) (bytes_of edit)
+
+abbrev pub left_by : PairEdit → Option (List ℕ)
+left_by (SavePair digest bytes) = Some bytes
+left_by (DeletePair digest bytes) = None
+
+-- each file but the spare one is as it was, or as one of these edits leaves it
+abbrev pub ChangedBy : List PairEdit → Files → Files → Type 0
+ChangedBy edits old new = (name : List ℕ) → name ≢ pending → (new name ≡ old name)
+    ⊎ ((edit : PairEdit) × Contains edits edit × (name ≡ file_of edit) × (new name ≡ left_by edit))
+
+-- these edits lead from the old files to the new ones, and touch no others
+pub record IsAfter (edits : List PairEdit) (old new : Files) : Type 0 where
+  pub stored : StoresAfter edits old new
+  pub files : ChangedBy edits old new
+
+-- some first ones of these edits do
 abbrev pub IsAfterSome : List PairEdit → Files → Files → Type 0
 IsAfterSome edits old new = (made left : List PairEdit) × (edits ≡ made ++ left) × IsAfter made old new

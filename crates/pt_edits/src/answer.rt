@@ -23,6 +23,7 @@ pub(crate) fn stop_of(fault: StoreFault) -> StoreStop
     match fault {
         StoreFault::Disk => StoreStop::Failed,
         StoreFault::Clash { kept, offered } => StoreStop::Clash(TwoValues { kept, offered }),
-        StoreFault::Dead | StoreFault::NoMemory => StoreStop::NoMemory,
+        StoreFault::NoMemory => StoreStop::NoMemory,
+        StoreFault::Dead => unreachable!(),
     }
 }

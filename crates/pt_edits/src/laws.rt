@@ -49,7 +49,7 @@ pub fn a_shown_failure_is_stored()
 {}
 
 /// A tidy folder was settled, some edits were made, and of more edits some first ones. Then a crash at any moment since leaves what it might
-/// have left at the start, or the stored set from the start after some first ones of all these edits; and a crash at the end the stored set after all of the
+/// have left at the start, or the files from the start after some first ones of all these edits; and a crash at the end the files after all of the
 /// former and some first ones of the latter.
 pub fn a_crash_leaves_first_edits()
     ensures since { (edits more : List PairEdit) (old mid new : Told) (image : Files) → Settled edits true old mid → Made more false mid new →

@@ -56,17 +56,19 @@ module _ (step : List Choice → Answer → Type 0) where
   ]
 
   follows-alike : (budget : ℕ) (made : Decision) (one other : Verdict) (trail trail2 : List Tried) → Follows step budget made one trail →
-      Follows step budget made other trail2 → AreAlike one other
-  follows-alike budget decision.Passed one other trail trail2 a b = subst (λ v. AreAlike v other) (sym a.0) b.0
-  follows-alike budget decision.GaveUp one other trail trail2 a b = subst (λ v. AreAlike v other) (sym a.0) b.0
+      Follows step budget made other trail2 → AreAlike step budget one other trail trail2
+  follows-alike budget decision.Passed one other trail trail2 a b = subst (λ v. AreAlike step budget v other trail trail2) (sym a.0) b.0
+  follows-alike budget decision.GaveUp one other trail trail2 a b = subst (λ v. AreAlike step budget v other trail trail2) (sym a.0) b.0
   follows-alike budget (decision.Failed first found) one other trail trail2 a b =
       let x = leads-as_good step first trail a.3.legal.strangers a.0 a.3.legal.leads in
       let y = leads-as_good step first trail2 b.3.legal.strangers b.0 b.3.legal.leads in
-      let both : AreAlike (verdict.Failed a.0 found a.1) (verdict.Failed b.0 found b.1) = (refl, x.alike ∙ sym y.alike) in
-      subst (λ v. AreAlike v other) (sym a.2) (subst (λ v. AreAlike (verdict.Failed a.0 found a.1) v) (sym b.2) both)
+      let both : AreAlike step budget (verdict.Failed a.0 found a.1) (verdict.Failed b.0 found b.1) trail trail2 =
+      (refl, record { first = first; one = a.3; again = b.3; ending = x.alike ∙ sym y.alike }) in
+      subst (λ v. AreAlike step budget v other trail trail2) (sym a.2)
+      (subst (λ v. AreAlike step budget (verdict.Failed a.0 found a.1) v trail trail2) (sym b.2) both)
 
   pub findings-agree : (name : List ℕ) (seed runs budget : ℕ) (stored : List (List Choice)) (one other : Finding) →
-      IsFinding step name seed runs budget stored one → IsFinding step name seed runs budget stored other → Agree one other
+      IsFinding step name seed runs budget stored one → IsFinding step name seed runs budget stored other → Agree step one other
   findings-agree name seed runs budget stored one other a b =
       let same = outcome-once step seed runs stored a.outcome b.outcome a.is b.is in
       record {
@@ -76,6 +78,7 @@ module _ (step : List Choice → Answer → Type 0) where
         failing = a.flags ∙ ap (λ o. o.failing) same ∙ sym b.flags;
         seen = a.seen ∙ ap (λ o. o.seen) same ∙ sym b.seen;
         valid = a.valid ∙ ap (λ o. o.valid) same ∙ sym b.valid;
-        verdict = follows-alike budget b.outcome.decision one.verdict other.verdict one.trail other.trail
-            (subst (λ (o : Outcome). Follows step budget o.decision one.verdict one.trail) same a.follows) b.follows;
+        verdict = subst (λ (allowed : ℕ). AreAlike step allowed one.verdict other.verdict one.trail other.trail) (sym a.allowed)
+            (follows-alike budget b.outcome.decision one.verdict other.verdict one.trail other.trail
+            (subst (λ (o : Outcome). Follows step budget o.decision one.verdict one.trail) same a.follows) b.follows);
       }

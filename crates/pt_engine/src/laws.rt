@@ -16,8 +16,9 @@ pub fn an_outcome_is_one<C: Check>(check: &C)
         IsOutcome (C.step check.now) seed runs stored other → one ≡ other }
 {}
 
-/// Two findings of one check differ in the reduction alone, whatever numbers of workers found them.
+/// Two findings of one check differ in the reduction alone, whatever numbers of workers found them; of a failure both reductions begin from one record.
 pub fn findings_agree<C: Check>(check: &C)
     ensures { (name : List ℕ) (seed runs budget : ℕ) (stored : List (List Choice)) (one other : Finding) →
-        IsFinding (C.step check.now) name seed runs budget stored one → IsFinding (C.step check.now) name seed runs budget stored other → Agree one other }
+        IsFinding (C.step check.now) name seed runs budget stored one → IsFinding (C.step check.now) name seed runs budget stored other →
+        Agree (C.step check.now) one other }
 {}

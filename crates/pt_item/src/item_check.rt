@@ -22,7 +22,7 @@ pub enum ItemCheck<'a, C: Check> {
 
 impl<'a, C: Check> ItemCheck<'a, C> {
     /// The check of an item. It takes no memory, and is used while the item and the checks are lent. Of several checks of the item's
-    /// name it is the first.
+    /// name it may be any.
     pub fn of(item: &'a Item, checks: &'a [C]) -> ItemCheck<'a, C>
         requires { IsHandedIn (map C.name checks.now) (plain_item item.now) }
         ensures { IsCheckOf C.name checks.now (plain_item item.now) result }

@@ -3,7 +3,7 @@ ghost use Rattle.std.specs.Prelude.{◌≡◌, ℕ, Some, map, slice_get, Contai
 use pt_case::Check;
 use pt_val::Name;
 
-/// The first of the checks that has this name.
+/// A check that has this name.
 pub(crate) fn check_named<'a, C: Check>(name: &Name, checks: &'a [C]) -> &'a C
     requires { Contains (map C.name checks.now) name.now }
     ensures named { C.name result.now ≡ name.now }

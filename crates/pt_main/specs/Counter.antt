@@ -1,17 +1,13 @@
 -- What the check `counter` does: a count is raised by digits and set back to 0, and is never to exceed 20.
 use Rattle.std.specs.Prelude.{◌≡◌, ℕ, ℤ, pos, ◌+ℤ◌, ◌&&◌, int_lt, int_le, Bool, false, List, [], ◌∷◌, codes, if◌then◌else◌}
-use Rattle.pt_choice.specs.declared.choice.Choice.{Choice}
 use Rattle.pt_val.specs.declared.val.Val.{Val}
 use Rattle.pt_val.specs.declared.val.Val.TheVariants as val
 use Rattle.pt_case.specs.declared.ending.Origin.TheVariants.{Point}
 use Rattle.pt_case.specs.declared.note.Note.{Note}
-use Rattle.pt_case.specs.Step.{Answer}
 use Rattle.pt_plan.specs.Plan.{Plan, Gives, Faults, Notes, and_then}
-use Rattle.pt_plan.specs.Says.{plan_says}
 use Rattle.pt_typed.specs.Plans.{ints_plan}
 use Rattle.pt_typed.specs.Reading.{number_of}
 use Rattle.pt_rules.specs.Meaning.{Meaning}
-use Rattle.pt_rules.specs.Machine.{steps_plan}
 
 abbrev pub counter_name : List ℕ
 counter_name = codes "counter"
@@ -62,7 +58,3 @@ pub record IsCounter (name : List ℕ) (rules : List Meaning) (steps : ℕ) (sta
   pub ruled : rules ≡ add_meaning ∷ reset_meaning ∷ []
   pub stepped : steps ≡ 20
   pub started : start ≡ val.Int (pos 0)
-
--- what it says
-abbrev pub counter_says : List Choice → Answer → Type 0
-counter_says = plan_says (steps_plan (add_meaning ∷ reset_meaning ∷ []) 20 (val.Int (pos 0)))

@@ -14,4 +14,4 @@ pub use listing::listed;
 pub use made::summary;
 pub use refusal::{Refusal, Word, fixed_text, refusal_text};
 pub use report::{block, replayed, tail};
-pub use sorts::{has_failed, has_given_up, has_passed};
+pub use sorts::has_passed;

@@ -3,19 +3,20 @@ ghost use Rattle.pt_report.specs.Sorts.{has_passed, has_failed, has_given_up, ho
 
 use pt_found::{Finding, Verdict};
 
+/// Whether the item passed: a run with no other verdict ends with status 0.
 pub fn has_passed(verdict: &Verdict) -> bool
     ensures { result ≡ has_passed verdict.now }
 {
     matches!(verdict, Verdict::Passed)
 }
 
-pub fn has_failed(verdict: &Verdict) -> bool
+pub(crate) fn has_failed(verdict: &Verdict) -> bool
     ensures { result ≡ has_failed verdict.now }
 {
     matches!(verdict, Verdict::Failed { .. })
 }
 
-pub fn has_given_up(verdict: &Verdict) -> bool
+pub(crate) fn has_given_up(verdict: &Verdict) -> bool
     ensures { result ≡ has_given_up verdict.now }
 {
     matches!(verdict, Verdict::GaveUp)

@@ -16,7 +16,7 @@ use Rattle.pt_turns.specs.Finishes.{Finishes, StoppedShort}
 use Rattle.pt_turns.specs.Scene.{DiskShown}
 use Rattle.pt_turns.proofs.CrashLemmas.{finished-left, stopped-left}
 use Rattle.pt_turns.proofs.ExitLemmas.{exit-kept, exit-midway, end-exit, finished-exit, finished-end, stopped-exit}
-use Rattle.pt_turns.proofs.SoundLemmas.{nothing-lost, nothing-invented}
+use Rattle.pt_turns.proofs.SoundLemmas.{nothing-lost, nothing-invented, nothing-else}
 use Rattle.pt_run.specs.declared.message.Message.TheVariants.{Refused}
 use Rattle.pt_run.specs.Call.{Call, Answers}
 use Rattle.pt_run.specs.Crash.{OfTaken, IsSafe, IsLeft, IsLeftSince, IsLeftAtExit, IsLeftAtEnd}
@@ -46,6 +46,7 @@ module _ {C : Type 0} (name : C → List ℕ) (step : C → List Choice → Answ
       midway = midway;
       lost = nothing-lost name step checks seed items findings start image midway;
       invented = nothing-invented name step checks seed items findings start image midway;
+      others = nothing-else name step checks seed items findings start image midway;
     }
 
     left : IsAtExit name step checks seed items findings start image → IsLeft name step checks seed findings start image items

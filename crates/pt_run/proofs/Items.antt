@@ -215,7 +215,7 @@ module _ {C : Type 0} (name : C → List ℕ) (step : C → List Choice → Answ
   finding_of seed items reported finding old new (inr (inr (inr unwritten))) has = of_cut unwritten.cut
     where
       of_cut : IsCut name step checks seed items reported.findings old new → IsFoundIn seed items finding
-      of_cut (inl (edits, turns, made, cut)) = first_turn_of seed old.disk.told items reported.findings edits finding turns has
-      of_cut (inr (inl (edits, turns, made, cut))) = turn_of seed old.disk.told [] items reported.findings edits finding turns has
+      of_cut (inl (edits, turns, made, cut, still)) = first_turn_of seed old.disk.told items reported.findings edits finding turns has
+      of_cut (inr (inl (edits, turns, made, cut, still))) = turn_of seed old.disk.told [] items reported.findings edits finding turns has
       of_cut (inr (inr (inl (halted, cause, cut)))) = halted_turn_of seed items reported.findings finding old.disk.told new.disk.told halted has
-      of_cut (inr (inr (inr (two, clashing, cut)))) = first_turn_of seed old.disk.told items reported.findings clashing.partly.edits finding clashing.partly.turns has
+      of_cut (inr (inr (inr (two, clashing, cut, still)))) = first_turn_of seed old.disk.told items reported.findings clashing.partly.edits finding clashing.partly.turns has

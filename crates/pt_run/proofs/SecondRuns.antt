@@ -7,7 +7,7 @@ use Rattle.pt_parse.specs.Suites.{Reads}
 use Rattle.pt_case.specs.Step.{Answer}
 use Rattle.pt_disk.specs.Folder.{reads}
 use Rattle.pt_disk.specs.Moments.{Told, now}
-use Rattle.pt_edits.specs.Pairs.{PairEdit, IsAfter}
+use Rattle.pt_edits.specs.Pairs.{PairEdit, StoresAfter}
 use Rattle.pt_found.specs.declared.finding.Finding.{Finding}
 use Rattle.pt_io.specs.Files.{IsSame}
 use Rattle.pt_io.specs.Reading.{IsWithinLimit}
@@ -25,7 +25,7 @@ use Rattle.pt_run.proofs.Workers.{has_run}
 module _ {C : Type 0} (name : C → List ℕ) (step : C → List Choice → Answer → Type 0) (checks : List C) where
   pub found_again : ((bytes : List ℕ) (suite other : SuiteTree) → Reads bytes suite → Reads bytes other → suite ≡ other) →
       ((seed anew : ℕ) (told telling : Told) (items : List ItemTree) (one other : List Finding) (edits more : List PairEdit) →
-      AreTurns name step checks seed (Some told) items one edits → IsAfter edits (reads (now told)) (reads (now telling)) →
+      AreTurns name step checks seed (Some told) items one edits → StoresAfter edits (reads (now told)) (reads (now telling)) →
       AreTurns name step checks anew (Some telling) items other more → AreFoundAgain name step checks seed anew [] items one other) →
       (one other : Call) (file : List ℕ) (seed anew workers more : ℕ) (told end telling : Told) → Answers name step checks one →
       AsksRun one.words file seed workers → one.finish.status < 2 → Answers name step checks other → AsksRun other.words file anew more →
@@ -44,6 +44,6 @@ module _ {C : Type 0} (name : C → List ℕ) (step : C → List Choice → Answ
         first.suite,
         first.taken,
         turns_again seed anew told telling first.suite.items one.finish.findings other.finish.findings first.edits second.edits first.turns
-            (λ d b. ((λ has. (left d b).0 ((stored d b).0 has)), (λ has. (stored d b).1 ((left d b).1 has))))
+            (λ d b. ((λ has. (left.stored d b).0 ((stored d b).0 has)), (λ has. (stored d b).1 ((left.stored d b).1 has))))
             (subst (λ (s : SuiteTree). AreTurns name step checks anew (Some telling) s.items other.finish.findings second.edits) suites second.turns),
       )

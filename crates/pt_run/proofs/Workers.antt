@@ -85,13 +85,13 @@ module _ {C : Type 0} (name : C → List ℕ) (step : C → List Choice → Answ
   pub runs_agree : ((bytes : List ℕ) (suite other : SuiteTree) → Reads bytes suite → Reads bytes other → suite ≡ other) →
       ((seed : ℕ) (told telling : Told) (items : List ItemTree) (one other : List Finding) (edits more : List PairEdit) →
       SameStored (reads (now told)) (reads (now telling)) → AreTurns name step checks seed (Some told) items one edits →
-      AreTurns name step checks seed (Some telling) items other more → AgreeWhereOwn [] items one other) →
+      AreTurns name step checks seed (Some telling) items other more → AgreeWhereOwn name step checks [] items one other) →
       (one other : Call) (file : List ℕ) (seed workers more : ℕ) (told telling : Told) → Answers name step checks one → AsksRun one.words file seed workers →
       one.finish.status < 2 → Answers name step checks other → AsksRun other.words file seed more → other.finish.status < 2 →
       IsSome one.before.files.named → IsSame one.before.files other.before.files → one.before.disk.told ≡ Some told → other.before.disk.told ≡ Some telling →
       SameStored (reads (now told)) (reads (now telling)) →
       (suite : SuiteTree) × IsTaken (map name checks) one.before.files one.after.files file suite
-      × AgreeWhereOwn [] suite.items one.finish.findings other.finish.findings
+      × AgreeWhereOwn name step checks [] suite.items one.finish.findings other.finish.findings
   runs_agree one_suite turns_agree one other file seed workers more told telling answers asks below answered asked under named same here there stored =
       let first = has_run one file seed workers told answers asks below here in
       let second = has_run other file seed more telling answered asked under there in

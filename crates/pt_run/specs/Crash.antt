@@ -8,7 +8,7 @@ use Rattle.pt_disk.specs.Folder.{reads, IsImage}
 use Rattle.pt_disk.specs.Moments.{Told, now}
 use Rattle.pt_found.specs.declared.finding.Finding.{Finding}
 use Rattle.pt_turns.specs.Crash.{IsMidway, IsAtExit, IsAtEnd}
-use Rattle.pt_turns.specs.Differences.{NothingIsLost, NothingIsInvented}
+use Rattle.pt_turns.specs.Differences.{NothingIsLost, NothingIsInvented, NothingElseChanges}
 use Rattle.pt_turns.specs.Kept.{AreStillKept}
 use Rattle.pt_run.specs.Outside.{Outside}
 use Rattle.pt_run.specs.Suite.{IsTaken}
@@ -19,12 +19,13 @@ module _ {C : Type 0} (name : C → List ℕ) (step : C → List Choice → Answ
   OfTaken file before after Holds = (suite : SuiteTree) × IsTaken (map name checks) before.files after.files file suite × Holds suite.items
 
   module _ (seed : ℕ) where
-    -- These files store what was stored at the start, after some first ones of the edits of the turns; nothing that was stored is lost, and nothing is
-    -- invented.
+    -- These are the files from the start, after some first ones of the edits of the turns; nothing that was stored is lost, nothing is invented, and no
+    -- other file is changed.
     pub record IsSafe (findings : List Finding) (start : Told) (image : Files) (items : List ItemTree) : Type 0 where
       pub midway : IsMidway name step checks seed items findings start image
       pub lost : NothingIsLost name step checks items (reads (now start)) image
       pub invented : NothingIsInvented name step checks items (reads (now start)) image
+      pub others : NothingElseChanges items (reads (now start)) image
 
     -- They have the edits of all turns of the findings, and each failure that was shown.
     pub record IsLeft (findings : List Finding) (start : Told) (image : Files) (items : List ItemTree) : Type 0 where

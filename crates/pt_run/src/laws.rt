@@ -64,14 +64,14 @@ pub fn workers_change_no_finding<C: Check>(checks: &[C])
         → IsSome one.before.files.named → IsSame one.before.files other.before.files
         → one.before.disk.told ≡ Some told → other.before.disk.told ≡ Some telling → SameStored (reads (now told)) (reads (now telling))
         → (suite : SuiteTree) × IsTaken (map C.name checks.now) one.before.files one.after.files file suite
-        × AgreeWhereOwn [] suite.items one.finish.findings other.finish.findings }
+        × AgreeWhereOwn C.name C.step checks.now [] suite.items one.finish.findings other.finish.findings }
 {
     one_suite();
     pt_turns::workers_change_no_finding(checks);
 }
 
 /// What a crash leaves of a run on a disk that tells and was tidy at the start, whatever the run came to, and after want of memory. At each moment since
-/// the start it is what a crash might have left then, or it stores what was stored then after some first ones of the edits of the turns, and nothing is lost and nothing invented.
+/// the start it is what a crash might have left then, or the files from then after some first ones of the edits of the turns, and nothing is lost, nothing invented, and no other file changed.
 /// At the exit it has all edits of the turns of the findings, and each failure that was shown, and with status 0 or 1 it is what was stored after all turns.
 pub fn what_survives_a_crash<C: Check>(checks: &[C])
     ensures since { (call : Call) (file : List ℕ) (seed workers : ℕ) (old new : Told) (image : Files)

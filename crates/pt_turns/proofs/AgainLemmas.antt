@@ -39,7 +39,7 @@ use Rattle.pt_wire.specs.Unpacked.{Unpacks, IsUnpacked}
 use Rattle.pt_wire.specs.declared.unpacking.Unpacked.{Unpacked}
 use Rattle.pt_wire.proofs.StoredLists.{one_unpacked}
 use Rattle.pt_edits.specs.Differences.{IsOfShown}
-use Rattle.pt_edits.specs.Pairs.{Pairs, PairEdit, after as after_edit, after_all, IsAfter, digest_of as edit_digest}
+use Rattle.pt_edits.specs.Pairs.{Pairs, PairEdit, after as after_edit, after_all, StoresAfter, digest_of as edit_digest}
 use Rattle.pt_edits.specs.Readings.{IsSpelled, AreEdits, AreOfKey, list_in, lists_of}
 use Rattle.pt_edits.specs.declared.reading.Reading.{Reading}
 use Rattle.pt_edits.proofs.FateLemmas.{saved-stays}
@@ -307,12 +307,13 @@ module _ (step : List Choice → Answer → Type 0) where
         follows = first.follows;
       }
 
-      agrees : seed ≡ anew → Agree bare other
+      agrees : seed ≡ anew → Agree step bare other
       agrees seeds = findings-agree step word anew settings.runs settings.shrink [] bare other
           (subst (λ (s : ℕ). IsFinding step word s settings.runs settings.shrink [] bare) seeds bare-is)
           (subst (λ (lists : List (List Choice)). IsFinding step word anew settings.runs settings.shrink lists other) (nothing (lists_of rereadings) no-list) second)
 
-      as-before : (seed ≡ anew → AreAlike one.verdict other.verdict → other.verdict ≡ one.verdict) → IsAsBefore seed anew one other
+      as-before : (seed ≡ anew → AreAlike step one.budget one.verdict other.verdict one.trail other.trail → other.verdict ≡ one.verdict) →
+          IsAsBefore seed anew one other
       unfolding bare
       as-before alike = record {
         none_stored = second.flags ∙ second.is.flags ∙ no-flags second.is.records no-record;
@@ -371,9 +372,9 @@ module _ (step : List Choice → Answer → Type 0) where
 
     finds-again : (told : Verdict) → one.verdict ≡ told → FindsAgain step settings.shrink seed anew told one other
     finds-again verdict.Passed same = as-before verdict.Passed (λ rec is_shown. is_shown) (λ shown found spent is. cc is) same
-        (λ seeds alike. subst (λ (v : Verdict). AreAlike v other.verdict) same alike ∙ sym same)
+        (λ seeds alike. subst (λ (v : Verdict). AreAlike step one.budget v other.verdict one.trail other.trail) same alike ∙ sym same)
     finds-again verdict.GaveUp same = as-before verdict.GaveUp (λ rec is_shown. is_shown) (λ shown found spent is. cc is) same
-        (λ seeds alike. subst (λ (v : Verdict). AreAlike v other.verdict) same alike ∙ sym same)
+        (λ seeds alike. subst (λ (v : Verdict). AreAlike step one.budget v other.verdict one.trail other.trail) same alike ∙ sym same)
     finds-again (verdict.Failed shown found spent) same = begins-from shown found spent same
 
 -- ---- the turns of one item, and of all
@@ -412,7 +413,7 @@ module _ {C : Type 0} (name : C → List ℕ) (step : C → List Choice → Answ
     body-again word settings (Property_of stmts) a b = said-again (plan_says (property_plan stmts)) word settings a b
     body-again word settings (Machine_of machine) a b = said-again (plan_says (machine_plan machine settings.steps)) word settings a b
 
-  module _ (told telling : Told) (all : List PairEdit) (after : IsAfter all (reads (now told)) (reads (now telling))) where
+  module _ (told telling : Told) (all : List PairEdit) (after : StoresAfter all (reads (now told)) (reads (now telling))) where
     turn-again : (earlier : List (List ℕ)) (item : ItemTree) (items : List ItemTree) (done did edits more rest : List PairEdit) (one other : Finding) →
         AreAmong earlier did → Turn name step checks seed (Some told) done item one edits → Turn name step checks anew (Some telling) did item other more →
         ¬ Contains earlier (digest_of item) → all ≡ (done ++ edits) ++ rest → AllByRecursion (λ edit. ¬ edit_digest edit ≡ digest_of item) rest →

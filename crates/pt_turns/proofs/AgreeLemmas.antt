@@ -17,7 +17,7 @@ use Rattle.pt_engine.specs.Finding.{IsFinding, ReplaysItself}
 use Rattle.pt_engine.proofs.AgreeLemmas.{findings-agree}
 use Rattle.pt_item.specs.Item.{OfBody}
 use Rattle.pt_item.proofs.NamedLemmas.{same-word}
-use Rattle.pt_turns.specs.Agree.{AllAgree}
+use Rattle.pt_turns.specs.Agree.{AgreeOn, AllAgree}
 use Rattle.pt_turns.specs.Examined.{Examined}
 use Rattle.pt_turns.specs.Turns.{AreExamined}
 
@@ -62,22 +62,22 @@ module _ {C : Type 0} (name : C → List ℕ) (step : C → List Choice → Answ
 
     body-agrees : (word : List ℕ) (settings : Settings) (body : BodyTree) (one other : Finding) →
         OfBody name step checks word settings body (IsFoundBy word settings one) →
-        OfBody name step checks word settings body (IsFoundBy word settings other) → Agree one other
+        OfBody name step checks word settings body (IsFoundBy word settings other) → OfBody name step checks word settings body (λ says. Agree says one other)
     body-agrees word settings Check_of one other a b =
         let same : b.1 ≡ a.1 = one-named name checks b.0 a.0 b.1 a.1 distinct b.2 a.2 (b.3 ∙ sym a.3) in
         let P : C → Type 0 = λ check. IsFoundBy word settings other (step check) in
-        findings-agree (step a.1) word seed settings.runs settings.shrink stored one other a.4.0 (subst P same b.4).0
+        (a.0, a.1, a.2, a.3, findings-agree (step a.1) word seed settings.runs settings.shrink stored one other a.4.0 (subst P same b.4).0)
     body-agrees word settings (Property_of stmts) one other a b =
         findings-agree (plan_says (property_plan stmts)) word seed settings.runs settings.shrink stored one other a.0 b.0
     body-agrees word settings (Machine_of machine) one other a b =
         findings-agree (plan_says (machine_plan machine settings.steps)) word seed settings.runs settings.shrink stored one other a.0 b.0
 
     pub item-agrees : (item : ItemTree) (one other : Finding) → Examined name step checks seed stored item one →
-        Examined name step checks seed stored item other → Agree one other
+        Examined name step checks seed stored item other → AgreeOn name step checks item one other
     item-agrees item one other a b = body-agrees item.name.name item.settings item.body one other a.found b.found
 
   pub examined-agree : (items : List ItemTree) (one other : List Finding) → AreExamined name step checks seed items one →
-      AreExamined name step checks seed items other → AllAgree one other
+      AreExamined name step checks seed items other → AllAgree name step checks items one other
   examined-agree [] [] [] a b = tt
   examined-agree [] (one ∷ ones) other a b = elim a [ ]
   examined-agree [] [] (other ∷ others) a b = elim b [ ]

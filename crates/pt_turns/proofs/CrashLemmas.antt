@@ -37,7 +37,7 @@ module _ {C : Type 0} (name : C → List ℕ) (step : C → List Choice → Answ
         turns = turns;
         more = [];
         of_next = inl refl;
-        stored = subst (λ (all : List PairEdit). IsAfterSome all (reads (now start)) image) (sym (append-nil edits)) some;
+        edited = subst (λ (all : List PairEdit). IsAfterSome all (reads (now start)) image) (sym (append-nil edits)) some;
       }))
       (settled-since edits true start end image settled tidy since)
 
@@ -47,7 +47,7 @@ module _ {C : Type 0} (name : C → List ℕ) (step : C → List Choice → Answ
   partly-left findings edits more turns of (None, settled, made) = absurd settled
   partly-left findings edits more turns of (Some mid, settled, made) = ⊎_elim
       (λ was. inl was)
-      (λ some. inr (record { edits = edits; turns = turns; more = more; of_next = of; stored = some }))
+      (λ some. inr (record { edits = edits; turns = turns; more = more; of_next = of; edited = some }))
       (settled-and-since edits more start mid end image settled made tidy since)
 
   halted-left : (findings : List Finding) → IsHalted name step checks seed items findings (Some start) (Some end) → Left findings
@@ -61,12 +61,12 @@ module _ {C : Type 0} (name : C → List ℕ) (step : C → List Choice → Answ
 
   module _ (old new : Scene) (from : old.disk.told ≡ Some start) (to : new.disk.told ≡ Some end) where
     cut-left : (findings : List Finding) → IsCut name step checks seed items findings old new → Left findings
-    cut-left findings (inl (edits, turns, settled, written)) =
+    cut-left findings (inl (edits, turns, settled, written, still)) =
         settled-left findings edits (rw from at turns) (rw (from, to) at settled)
-    cut-left findings (inr (inl (edits, turns, settled, written))) =
+    cut-left findings (inr (inl (edits, turns, settled, written, still))) =
         settled-left findings edits (first-of-all name step checks seed (Some start) items findings edits (rw from at turns)) (rw (from, to) at settled)
     cut-left findings (inr (inr (inl (halted, rose, written)))) = halted-left findings (rw (from, to) at halted)
-    cut-left findings (inr (inr (inr (two, clashing, written)))) = clashing-left findings two (rw (from, to) at clashing)
+    cut-left findings (inr (inr (inr (two, clashing, written, still)))) = clashing-left findings two (rw (from, to) at clashing)
 
     pub finished-left : (reported : Reported) → Finishes name step checks seed items reported old new → Left reported.findings
     finished-left reported (inl whole) =

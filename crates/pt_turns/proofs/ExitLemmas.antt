@@ -11,7 +11,6 @@ use Rattle.pt_disk.specs.Leaves.{IsTidy}
 use Rattle.pt_disk.specs.Moments.{Told, now}
 use Rattle.pt_found.specs.declared.finding.Finding.{Finding}
 use Rattle.pt_stored.specs.Stored.{pending}
-use Rattle.pt_stored.proofs.SetLemmas.{same-stored}
 use Rattle.pt_edits.specs.Made.{Settled, SettledAnd}
 use Rattle.pt_edits.specs.Pairs.{PairEdit, AreUnder, digest_of as edit_digest, IsAfter}
 use Rattle.pt_edits.proofs.CrashLemmas.{settled-and-left, attached-since}
@@ -35,7 +34,7 @@ settled-end : (edits : List PairEdit) (old new : Told) (image : Files) → Settl
 settled-end edits old new image settled tidy is =
     let but = (settled.rests tidy refl).images image is in
     is-after-then edits [] (reads (now old)) (reads (now new)) image (settled.edited refl)
-    (is-after-none (reads (now new)) image (same-stored (reads (now new)) image but))
+    (is-after-none (reads (now new)) image but)
 
 -- ---- what was shown
 
@@ -95,7 +94,7 @@ module _ {C : Type 0} (name : C → List ℕ) (step : C → List Choice → Answ
   exit-kept findings start image exit =
       kept-still image exit.made items findings
       (under-next (Some start) findings exit.edits exit.more exit.made exit.left exit.of_next exit.parts)
-      (kept-after name step checks seed (Some start) (reads (now start)) image exit.made [] (take (length findings) items) findings exit.edits exit.turns exit.stored)
+      (kept-after name step checks seed (Some start) (reads (now start)) image exit.made [] (take (length findings) items) findings exit.edits exit.turns exit.edited.stored)
 
   -- an exit is a moment
   pub exit-midway : (findings : List Finding) (start : Told) (image : Files) → IsAtExit name step checks seed items findings start image →
@@ -105,18 +104,18 @@ module _ {C : Type 0} (name : C → List ℕ) (step : C → List Choice → Answ
     turns = exit.turns;
     more = exit.more;
     of_next = exit.of_next;
-    stored = (
+    edited = (
       exit.edits ++ exit.made,
       exit.left,
       ap (λ (all : List PairEdit). exit.edits ++ all) exit.parts ∙ sym (append_assoc exit.edits exit.made exit.left),
-      exit.stored,
+      exit.edited,
     );
   }
 
   -- where all items had their turns, an exit leaves all their edits
   pub end-exit : (findings : List Finding) (start : Told) (image : Files) → IsAtEnd name step checks seed items findings start image →
       IsAtExit name step checks seed items findings start image
-  end-exit findings start image (edits, turns, stored) =
+  end-exit findings start image (edits, turns, edited) =
       let P : List PairEdit → Type 0 = λ all. IsAfter all (reads (now start)) image in
       record {
         edits = edits;
@@ -126,7 +125,7 @@ module _ {C : Type 0} (name : C → List ℕ) (step : C → List Choice → Answ
         made = [];
         left = [];
         parts = refl;
-        stored = subst P (sym (append-nil edits)) stored;
+        edited = subst P (sym (append-nil edits)) edited;
       }
 
   -- ---- what a run came to
@@ -145,7 +144,7 @@ module _ {C : Type 0} (name : C → List ℕ) (step : C → List Choice → Answ
       made = [];
       left = [];
       parts = refl;
-      stored = settled-end edits start end image settled tidy is;
+      edited = settled-end edits start end image settled tidy is;
     }
 
     and-exit : (findings : List Finding) (edits more : List PairEdit) → FirstTurns name step checks seed (Some start) items findings edits →
@@ -153,8 +152,8 @@ module _ {C : Type 0} (name : C → List ℕ) (step : C → List Choice → Answ
         IsAtExit name step checks seed items findings start image
     and-exit findings edits more turns of (None, settled, made) = absurd settled
     and-exit findings edits more turns of (Some mid, settled, made) =
-        let (first, rest, parts, stored) = settled-and-left edits more start mid end image settled made tidy is in
-        record { edits = edits; turns = turns; more = more; of_next = of; made = first; left = rest; parts = parts; stored = stored }
+        let (first, rest, parts, edited) = settled-and-left edits more start mid end image settled made tidy is in
+        record { edits = edits; turns = turns; more = more; of_next = of; made = first; left = rest; parts = parts; edited = edited }
 
     partly-exit : (findings : List Finding) → PartlyDone name step checks seed items findings (Some start) (Some end) →
         IsAtExit name step checks seed items findings start image
@@ -167,12 +166,12 @@ module _ {C : Type 0} (name : C → List ℕ) (step : C → List Choice → Answ
 
     module _ (old new : Scene) (from : old.disk.told ≡ Some start) (to : new.disk.told ≡ Some end) where
       cut-exit : (findings : List Finding) → IsCut name step checks seed items findings old new → Exit findings
-      cut-exit findings (inl (edits, turns, settled, written)) =
+      cut-exit findings (inl (edits, turns, settled, written, still)) =
           inr (settled-exit findings edits (rw from at turns) (rw (from, to) at settled))
-      cut-exit findings (inr (inl (edits, turns, settled, written))) =
+      cut-exit findings (inr (inl (edits, turns, settled, written, still))) =
           inr (settled-exit findings edits (first-of-all name step checks seed (Some start) items findings edits (rw from at turns)) (rw (from, to) at settled))
       cut-exit findings (inr (inr (inl (halted, rose, written)))) = halted-exit findings (rw (from, to) at halted)
-      cut-exit findings (inr (inr (inr (two, clashing, written)))) = inr (partly-exit findings (rw (from, to) at clashing.partly))
+      cut-exit findings (inr (inr (inr (two, clashing, written, still)))) = inr (partly-exit findings (rw (from, to) at clashing.partly))
 
       pub finished-exit : (reported : Reported) → Finishes name step checks seed items reported old new → Exit reported.findings
       finished-exit reported (inl whole) =

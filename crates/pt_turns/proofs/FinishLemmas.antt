@@ -55,7 +55,7 @@ module _ {C : Type 0} (name : C → List ℕ) (step : C → List Choice → Answ
       })
   all-finish last reported (edits, turns, kept, written, calm, still) (same, inr part) =
       let text = written-and-part old.sink.bytes mid.sink.bytes last.bytes findings (tail findings) written part.written in
-      unwritten last reported same (inr (inl (edits, turns, kept, text))) (rw calm at part.cause) part.ends part.no_clash
+      unwritten last reported same (inr (inl (edits, turns, kept, text, still))) (rw calm at part.cause) part.ends part.no_clash
 
   pub failed-finish : (last : Written) (reported : Reported) → EndedSettled name step checks seed items (Failed findings) old mid →
       IsAdded findings (refusal_text Database) 6 None reported mid.sink last → Finishes name step checks seed items reported old (After mid.disk last)
@@ -88,7 +88,7 @@ module _ {C : Type 0} (name : C → List ℕ) (step : C → List Choice → Answ
       })))
   clash-finish two last reported (clashing, written, calm, still) (same, inr part) =
       let text = written-and-part old.sink.bytes mid.sink.bytes last.bytes findings (refusal_text Clash) written part.written in
-      unwritten last reported same (inr (inr (inr (two, clashing, text)))) (rw calm at part.cause) part.ends part.no_clash
+      unwritten last reported same (inr (inr (inr (two, clashing, text, still)))) (rw calm at part.cause) part.ends part.no_clash
 
   -- no memory for the tail
   pub tail-short : EndedSettled name step checks seed items (All findings) old mid → StoppedShort name step checks seed items old mid

@@ -27,7 +27,7 @@ use Rattle.pt_wire.specs.Stored.{Stored}
 use Rattle.pt_wire.specs.Unpacked.{Unpacks, IsUnpacked}
 use Rattle.pt_wire.specs.declared.unpacking.Unpacked.{Unpacked}
 use Rattle.pt_wire.proofs.StoredLists.{one_unpacked, one_version}
-use Rattle.pt_edits.specs.Pairs.{Pairs, PairEdit, SavePair, DeletePair, bytes_of, digest_of as edit_digest, after_all, AreUnder, IsAfter}
+use Rattle.pt_edits.specs.Pairs.{Pairs, PairEdit, SavePair, DeletePair, bytes_of, digest_of as edit_digest, after_all, AreUnder, StoresAfter}
 use Rattle.pt_edits.specs.Readings.{IsSpelled, IsRenewed, IsKeptOrNot, IsAskedBy, AreAskedFor, IsShownSaved, AreEdits, list_in, lists_of}
 use Rattle.pt_edits.specs.declared.reading.Reading.{Reading}
 use Rattle.pt_edits.proofs.FateLemmas.{IsIn, saved-stays}
@@ -208,7 +208,7 @@ module _ {C : Type 0} (name : C → List ℕ) (step : C → List Choice → Answ
 
     module _ (start image : Files) (more : List PairEdit) where
       saved-kept : (digest : List ℕ) (verdict : Verdict) (done edits rest all : List PairEdit) → Saves digest verdict edits → all ≡ (done ++ edits) ++ rest →
-          AllByRecursion (IsOther digest) rest → AllByRecursion (IsOther digest) more → IsAfter (all ++ more) start image → IsKept image digest verdict
+          AllByRecursion (IsOther digest) rest → AllByRecursion (IsOther digest) more → StoresAfter (all ++ more) start image → IsKept image digest verdict
       saved-kept digest Passed done edits rest all saves parts early late after = tt
       saved-kept digest GaveUp done edits rest all saves parts early late after = tt
       saved-kept digest (Failed shown found spent) done edits rest all (fresh, stored, saved, never) parts early late after =
@@ -225,7 +225,7 @@ module _ {C : Type 0} (name : C → List ℕ) (step : C → List Choice → Answ
           )
 
       pub kept-after : (done : List PairEdit) (items : List ItemTree) (findings : List Finding) (all : List PairEdit) →
-          AreTurnsAfter name step checks seed told done items findings all → IsAfter (all ++ more) start image → AreKept image more items findings
+          AreTurnsAfter name step checks seed told done items findings all → StoresAfter (all ++ more) start image → AreKept image more items findings
       kept-after done [] [] all turns after = tt
       kept-after done [] (finding ∷ findings) all turns after = absurd turns
       kept-after done (item ∷ items) [] all turns after = absurd turns

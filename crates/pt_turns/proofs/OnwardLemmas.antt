@@ -21,12 +21,12 @@ use Rattle.pt_edits.specs.declared.stop.StoreStop.{StoreStop}
 use Rattle.pt_edits.specs.declared.stop.StoreStop.TheVariants.{Failed, Clash, NoMemory}
 use Rattle.pt_edits.specs.declared.stop.TwoValues.{TwoValues}
 use Rattle.pt_edits.proofs.MadeLemmas.{after-settle, both-made-none}
-use Rattle.pt_edits.proofs.SetLemmas.{after-all-same, after-all-append}
+use Rattle.pt_edits.proofs.SetLemmas.{after-all-same, after-all-append, is-after-none}
 use Rattle.pt_turns.specs.Ended.{AreOfTurn, AreOfNext}
 use Rattle.pt_turns.specs.Turn.{Turn, digest_of as turn_digest}
 use Rattle.pt_turns.specs.Turns.{AreTurnsAfter}
 
--- what the disks tell stores the same, after these edits
+-- the disks tell the same files, after these edits
 abbrev pub IsOnward : List PairEdit → Option Told → Option Told → Type 0
 IsOnward done = BothTell (λ old mid. IsAfter done (reads (now old)) (reads (now mid)))
 
@@ -40,13 +40,13 @@ pub onward-rests : (old mid : Option Told) → Rests old mid → IsOnward [] old
 onward-rests old mid rests = onward-made [] old mid (both-made-none true old mid rests)
 
 pub onward-attached : (old mid : Option Told) → BothTell (Attached true) old mid → IsOnward [] old mid
-onward-attached old mid attached = both-weaker (Attached true) (MovedOn []) old mid (λ a b attached. after-settle a b attached) attached
+onward-attached old mid attached = both-weaker (Attached true) (MovedOn []) old mid (λ a b attached. is-after-none (reads (now a)) (reads (now b)) (after-settle a b attached)) attached
 
 -- the set after more edits
 pairs-onward : (done more : List PairEdit) (old mid : Files) → IsAfter done old mid → (d b : List ℕ) →
     after_all more (IsStored mid) d b ↔ after_all (done ++ more) (IsStored old) d b
 pairs-onward done more old mid is d b =
-    let moved = after-all-same more (IsStored mid) (after_all done (IsStored old)) is d b in
+    let moved = after-all-same more (IsStored mid) (after_all done (IsStored old)) is.stored d b in
     let joined = after-all-append done more (IsStored old) d b in (
       λ has. joined.1 (moved.0 has),
       λ has. moved.1 (joined.0 has),

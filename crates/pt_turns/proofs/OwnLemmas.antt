@@ -11,11 +11,10 @@ use Rattle.pt_disk.specs.Folder.{reads}
 use Rattle.pt_disk.specs.Moments.{Told, now}
 use Rattle.pt_stored.specs.Stored.{IsStored, SameStored}
 use Rattle.pt_found.specs.declared.finding.Finding.{Finding}
-use Rattle.pt_engine.specs.Agree.{Agree}
 use Rattle.pt_edits.specs.Pairs.{Pairs, PairEdit, SavePair, DeletePair, after, after_all, AreUnder, digest_of}
 use Rattle.pt_edits.specs.Readings.{lists_of}
 use Rattle.pt_edits.proofs.UnderLemmas.{all-append, edits-under}
-use Rattle.pt_turns.specs.Agree.{AgreeWhereOwn}
+use Rattle.pt_turns.specs.Agree.{AgreeOn, AgreeWhereOwn}
 use Rattle.pt_turns.specs.Examined.{Examined}
 use Rattle.pt_turns.specs.Turn.{Turn, digest_of as turn_digest}
 use Rattle.pt_turns.specs.Turns.{AreTurnsAfter}
@@ -60,7 +59,7 @@ module _ (one-list : (list other : List Choice) (bytes : List ℕ) → Unpacks b
     (told telling : Told) (same : SameStored (reads (now told)) (reads (now telling))) where
   own-agrees : (earlier : List (List ℕ)) (item : ItemTree) (done did edits more : List PairEdit) (one other : Finding) → AreAmong earlier done →
       AreAmong earlier did → Turn name step checks seed (Some told) done item one edits → Turn name step checks seed (Some telling) did item other more →
-      ¬ Contains earlier (turn_digest item) → Agree one other
+      ¬ Contains earlier (turn_digest item) → AgreeOn name step checks item one other
   own-agrees earlier item done did edits more one other among between a b own =
       let digest = turn_digest item in
       let was = λ (v : List ℕ). others-left earlier done (IsStored (reads (now told))) digest v among own in
@@ -74,7 +73,7 @@ module _ (one-list : (list other : List Choice) (bytes : List ℕ) → Unpacks b
 
   pub turns-agree : (earlier : List (List ℕ)) (done did : List PairEdit) (items : List ItemTree) (one other : List Finding) (edits more : List PairEdit) →
       AreAmong earlier done → AreAmong earlier did → AreTurnsAfter name step checks seed (Some told) done items one edits →
-      AreTurnsAfter name step checks seed (Some telling) did items other more → AgreeWhereOwn earlier items one other
+      AreTurnsAfter name step checks seed (Some telling) did items other more → AgreeWhereOwn name step checks earlier items one other
   turns-agree earlier done did [] [] [] edits more among between a b = tt
   turns-agree earlier done did [] (one ∷ ones) others edits more among between a b = elim a [ ]
   turns-agree earlier done did [] [] (other ∷ others) edits more among between a b = elim b [ ]

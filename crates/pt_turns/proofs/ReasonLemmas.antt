@@ -1,6 +1,6 @@
 -- Each edit of a run has its reason, and what follows of that for what is stored.
-use Rattle.std.proofs.Common.{◌≡◌, ◌⊎◌, inl, inr, ⊎_elim, ℕ, ◌≤◌, suc, Bool, true, false, List, [], ◌∷◌, ◌++◌, length, Option, Some, None, refl, sym, ◌∙◌, subst, arith}
-use Rattle.std.specs.Prelude.{Contains, All, ⊤}
+use Rattle.std.proofs.Common.{◌≡◌, ◌⊎◌, inl, inr, ⊎_elim, ℕ, ◌≤◌, suc, Bool, true, false, zero, List, [], ◌∷◌, ◌++◌, length, Option, Some, None, refl, sym, ◌∙◌, subst, arith}
+use Rattle.std.specs.Prelude.{◌≢◌, Contains, All, ⊤}
 use Rattle.pt_choice.specs.declared.choice.Choice.{Choice}
 use Rattle.pt_disk.specs.Files.{Files}
 use Rattle.pt_wire.specs.Stored.{Stored}
@@ -15,8 +15,8 @@ use Rattle.pt_found.specs.declared.finding.Verdict.{Verdict}
 use Rattle.pt_found.specs.declared.finding.Verdict.TheVariants.{Passed, GaveUp, Failed}
 use Rattle.pt_engine.specs.Finding.{ReplaysItself}
 use Rattle.pt_engine.specs.Outcome.{AreRecords, flags_of}
-use Rattle.pt_stored.specs.Stored.{IsStored}
-use Rattle.pt_edits.specs.Pairs.{Pairs, PairEdit, SavePair, DeletePair, after, after_all, IsAfter}
+use Rattle.pt_stored.specs.Stored.{IsStored, pending}
+use Rattle.pt_edits.specs.Pairs.{Pairs, PairEdit, SavePair, DeletePair, digest_of, file_of, left_by, after, after_all, IsAfter}
 use Rattle.pt_edits.specs.Readings.{IsSpelled, IsRenewed, IsKeptOrNot, IsAskedBy, AreAskedFor, IsShownSaved, AreEdits, list_in, lists_of}
 use Rattle.pt_edits.specs.declared.reading.Reading.{Reading}
 use Rattle.pt_edits.proofs.FateLemmas.{IsIn, there-or-deleted, was-or-saved}
@@ -26,6 +26,11 @@ here x xs = (0, omega arith, refl)
 
 later : {X : Type 0} (x : X) (xs : List X) (y : X) → Contains xs y → Contains (x ∷ xs) y
 later x xs y (k, within, is) = (suc k, omega (arith, within), is)
+
+is-in : (edits : List PairEdit) (edit : PairEdit) → Contains edits edit → IsIn edit edits
+is-in [] edit (k, within, is) = absurd (omega (arith, within))
+is-in (first ∷ edits) edit (zero, within, is) = inl is
+is-in (first ∷ edits) edit (suc k, within, is) = inr (is-in edits edit (k, omega (arith, within), is))
 
 -- a pair that was saved is there, or one of the edits deletes it
 saved-or-deleted : (edits : List PairEdit) (S : Pairs) (d b : List ℕ) → IsIn (SavePair d b) edits → after_all edits S d b ⊎ IsIn (DeletePair d b) edits
@@ -48,6 +53,14 @@ module _ (Is : List ℕ → Type 0) (Fails : List ℕ → List Choice → Bool �
   abbrev HasReason : List PairEdit → PairEdit → Type 0
   HasReason before (SavePair digest bytes) = (list : List Choice) × Stored list bytes × (length list ≤ 256) × Fails digest list true
   HasReason before (DeletePair digest bytes) = (found : Option Unpacked) × IsUnpacked bytes found × Reason before digest found
+
+  -- so the edit's digest is one of these
+  reason-is : ((digest : List ℕ) (list : List Choice) (flag : Bool) → Fails digest list flag → Is digest) → (before : List PairEdit) (edit : PairEdit) →
+      HasReason before edit → Is (digest_of edit)
+  reason-is owns before (SavePair digest bytes) (list, stored, few, failing) = owns digest list true failing
+  reason-is owns before (DeletePair digest bytes) (None, unpacks, own) = own
+  reason-is owns before (DeletePair digest bytes) (Some unpacked, unpacks, inl passing) = owns digest unpacked.list false passing
+  reason-is owns before (DeletePair digest bytes) (Some unpacked, unpacks, inr (failing, first, fresh, stored, saved)) = owns digest unpacked.list true failing
 
   -- each of the edits has its reason, after these ones
   abbrev pub HaveReasons : List PairEdit → List PairEdit → Type 0
@@ -162,7 +175,15 @@ module _ (Is : List ℕ → Type 0) (Fails : List ℕ → List Choice → Bool �
       was-or-fails d b has = ⊎_elim
           (λ was. inl was)
           (λ saved. inr (reason-of (SavePair d b) saved))
-          (was-or-saved made (IsStored old) d b ((edited d b).0 has))
+          (was-or-saved made (IsStored old) d b ((edited.stored d b).0 has))
+
+      -- a file that is another is as an edit leaves it, whose digest is one of these
+      pub same-or-changed : ((digest : List ℕ) (list : List Choice) (flag : Bool) → Fails digest list flag → Is digest) → (file : List ℕ) → file ≢ pending →
+          (new file ≡ old file) ⊎ ((edit : PairEdit) × Is (digest_of edit) × (file ≡ file_of edit) × (new file ≡ left_by edit))
+      same-or-changed owns file spare = ⊎_elim
+          (λ same. inl same)
+          (λ (edit, within, is, left). inr (edit, reason-is owns made edit (reason-of edit (is-in made edit within)), is, left))
+          (edited.files file spare)
 
       -- no reason speaks against the version 2 of a list but that it does not fail
       passing-only : (digest : List ℕ) (list : List Choice) (fresh : List ℕ) (found : Option Unpacked) → Stored list fresh → length list ≤ 256 →
@@ -177,7 +198,7 @@ module _ (Is : List ℕ → Type 0) (Fails : List ℕ → List Choice → Bool �
       renewed-kept : (digest : List ℕ) (list : List Choice) (fresh : List ℕ) → Stored list fresh → length list ≤ 256 → IsIn (SavePair digest fresh) made →
           IsStored new digest fresh ⊎ Fails digest list false
       renewed-kept digest list fresh stored few saved = ⊎_elim
-          (λ has. inl ((edited digest fresh).1 has))
+          (λ has. inl ((edited.stored digest fresh).1 has))
           (λ deleted. let (found, unpacks, reason) = reason-of (DeletePair digest fresh) deleted in inr (passing-only digest list fresh found stored few unpacks reason))
           (saved-or-deleted made (IsStored old) digest fresh saved)
 
@@ -199,6 +220,6 @@ module _ (Is : List ℕ → Type 0) (Fails : List ℕ → List Choice → Bool �
 
       pub there-or-goes : (d b : List ℕ) → IsStored old d b → IsStored new d b ⊎ ((found : Option Unpacked) × IsUnpacked b found × Goes d found)
       there-or-goes d b was = ⊎_elim
-          (λ has. inl ((edited d b).1 has))
+          (λ has. inl ((edited.stored d b).1 has))
           (λ deleted. let (found, unpacks, reason) = reason-of (DeletePair d b) deleted in inr (found, unpacks, goes d b found unpacks reason))
           (there-or-deleted made (IsStored old) d b was)

@@ -1,5 +1,5 @@
--- Of a whole run nothing is lost and nothing is invented.
-use Rattle.std.proofs.Common.{◌≡◌, ◌⊎◌, inl, inr, ⊎_elim, ℕ, zero, suc, Bool, List, [], ◌∷◌, ◌++◌, length, take, Option, Some, None, refl, sym, ◌∙◌, subst, arith}
+-- Of a whole run nothing is lost, nothing is invented, and no other file is changed.
+use Rattle.std.proofs.Common.{◌≡◌, ◌⊎◌, inl, inr, ⊎_elim, ℕ, zero, suc, Bool, List, [], ◌∷◌, ◌++◌, length, take, Option, Some, None, refl, sym, ◌∙◌, ap, subst, arith}
 use Rattle.std.specs.Prelude.{Contains, slice_get, ⊤}
 use Rattle.std.proofs.lemmas.Option.{slice_get_within, get_or_from_slice_get}
 use Rattle.pt_choice.specs.declared.choice.Choice.{Choice}
@@ -18,17 +18,23 @@ use Rattle.pt_disk.specs.Folder.{reads}
 use Rattle.pt_disk.specs.Moments.{Told, now}
 use Rattle.pt_found.specs.declared.finding.Finding.{Finding}
 use Rattle.pt_engine.specs.Finding.{IsFinding, ReplaysItself}
+use Rattle.pt_stored.specs.Digest.{file_name}
 use Rattle.pt_stored.specs.Stored.{IsStored}
 use Rattle.pt_wire.specs.Unpacked.{IsUnpacked}
 use Rattle.pt_wire.specs.declared.unpacking.Unpacked.{Unpacked}
-use Rattle.pt_edits.specs.Pairs.{PairEdit}
+use Rattle.pt_edits.specs.Pairs.{PairEdit, SavePair, DeletePair, bytes_of, left_by}
 use Rattle.pt_edits.specs.Readings.{lists_of}
 use Rattle.pt_turns.specs.Crash.{IsMidway}
-use Rattle.pt_turns.specs.Differences.{OfKey, Fails, MayGo, NothingIsLost, NothingIsInvented}
+use Rattle.pt_turns.specs.Differences.{OfKey, Fails, MayGo, NothingIsLost, NothingIsInvented, NothingElseChanges}
 use Rattle.pt_turns.specs.Ended.{AreOfNext}
 use Rattle.pt_turns.specs.Turn.{Turn, digest_of}
 use Rattle.pt_turns.specs.Turns.{AreTurnsAfter}
-use Rattle.pt_turns.proofs.ReasonLemmas.{HaveReasons, AtAnyTime, Goes, have-both, have-first, edits-have, was-or-fails, there-or-goes}
+use Rattle.pt_turns.proofs.ReasonLemmas.{HaveReasons, AtAnyTime, Goes, have-both, have-first, edits-have, was-or-fails, there-or-goes, same-or-changed}
+
+-- what an edit leaves of its file
+whole-or-away : (edit : PairEdit) (file : Option (List ℕ)) → file ≡ left_by edit → (file ≡ Some (bytes_of edit)) ⊎ (file ≡ None)
+whole-or-away (SavePair digest bytes) file left = inl left
+whole-or-away (DeletePair digest bytes) file left = inr left
 
 -- ---- some of the items
 
@@ -101,21 +107,21 @@ module _ {C : Type 0} (name : C → List ℕ) (step : C → List Choice → Answ
         turn-has told done next finding more (among-at items (length findings) next stands) turn
 
     module _ (findings : List Finding) (start : Told) (image : Files) (midway : IsMidway name step checks seed items findings start image) where
-      made-have : HaveReasons IsOwn OwnFails [] midway.stored.0
+      made-have : HaveReasons IsOwn OwnFails [] midway.edited.0
       made-have =
           let first = turns-have (Some start) [] (take (length findings) items) findings midway.edits (among-first (length findings) items) tt midway.turns in
           let more = next-have (Some start) findings midway.edits midway.more midway.of_next in
           let all = have-both IsOwn OwnFails midway.edits midway.more [] first more in
-          have-first IsOwn OwnFails midway.stored.0 midway.stored.1 [] (subst (HaveReasons IsOwn OwnFails []) midway.stored.2 all)
+          have-first IsOwn OwnFails midway.edited.0 midway.edited.1 [] (subst (HaveReasons IsOwn OwnFails []) midway.edited.2 all)
 
       pub nothing-invented : NothingIsInvented name step checks items (reads (now start)) image
       nothing-invented d b has = ⊎_elim
           (λ was. inl was)
           (λ (list, stored, few, (item, among, same, fails)). inr (item, among, same, (list, stored, few, fails)))
-          (was-or-fails IsOwn OwnFails midway.stored.0 made-have (reads (now start)) image midway.stored.3 d b has)
+          (was-or-fails IsOwn OwnFails midway.edited.0 made-have (reads (now start)) image midway.edited.3 d b has)
 
       gone : (d b : List ℕ) (found : Option Unpacked) → IsUnpacked b found →
-          Goes IsOwn OwnFails midway.stored.0 made-have (reads (now start)) image midway.stored.3 d found →
+          Goes IsOwn OwnFails midway.edited.0 made-have (reads (now start)) image midway.edited.3 d found →
           OfKey items d (λ item. (found : Option Unpacked) × IsUnpacked b found × MayGo name step checks item (IsStored image d) found)
       gone d b None unpacks (item, among, same, has) = (item, among, same, (None, unpacks, tt))
       gone d b (Some unpacked) unpacks (inl (item, among, same, passing)) = (item, among, same, (Some unpacked, unpacks, inl passing))
@@ -126,4 +132,13 @@ module _ {C : Type 0} (name : C → List ℕ) (step : C → List Choice → Answ
       nothing-lost d b was = ⊎_elim
           (λ has. inl has)
           (λ (found, unpacks, goes). inr (gone d b found unpacks goes))
-          (there-or-goes IsOwn OwnFails midway.stored.0 made-have (reads (now start)) image midway.stored.3 d b was)
+          (there-or-goes IsOwn OwnFails midway.edited.0 made-have (reads (now start)) image midway.edited.3 d b was)
+
+      pub nothing-else : NothingElseChanges items (reads (now start)) image
+      nothing-else file spare = ⊎_elim
+          (λ same. inl same)
+          (λ (edit, (item, among, same, own), is, left).
+          let bytes = bytes_of edit in
+          inr (item, among, bytes, is ∙ ap (λ (d : List ℕ). file_name d bytes) (sym same), whole-or-away edit (image file) left))
+          (same-or-changed IsOwn OwnFails midway.edited.0 made-have (reads (now start)) image midway.edited.3
+          (λ digest list flag (item, among, same, fails). (item, among, same, tt)) file spare)

@@ -1,5 +1,5 @@
 -- What the turns of some items may take away from the stored set, and add to it.
-use Rattle.std.specs.Prelude.{◌≡◌, ◌⊎◌, ◌≤◌, ℕ, Bool, true, false, List, length, Contains, Option, Some, None, ⊤}
+use Rattle.std.specs.Prelude.{◌≡◌, ◌≢◌, ◌⊎◌, ◌≤◌, ℕ, Bool, true, false, List, length, Contains, Option, Some, None, ⊤}
 use Rattle.pt_choice.specs.declared.choice.Choice.{Choice}
 use Rattle.pt_wire.specs.Stored.{Stored}
 use Rattle.pt_wire.specs.Unpacked.{IsUnpacked}
@@ -11,12 +11,19 @@ use Rattle.pt_case.specs.declared.record.Record.{Record}
 use Rattle.pt_ast.specs.Trees.{ItemTree}
 use Rattle.pt_item.specs.Item.{OfItem}
 use Rattle.pt_disk.specs.Files.{Files}
-use Rattle.pt_stored.specs.Stored.{IsStored}
+use Rattle.pt_stored.specs.Digest.{file_name}
+use Rattle.pt_stored.specs.Stored.{IsStored, pending}
 use Rattle.pt_turns.specs.Turn.{digest_of}
 
 -- one of the items has a name of this digest, and of it this holds
 abbrev pub OfKey : List ItemTree → List ℕ → (ItemTree → Type 0) → Type 0
 OfKey items digest Holds = (item : ItemTree) × Contains items item × (digest_of item ≡ digest) × Holds item
+
+-- each file but the spare one is as it was, or it is that of a value of one of the items: whole, or away
+abbrev pub NothingElseChanges : List ItemTree → Files → Files → Type 0
+NothingElseChanges items old new = (file : List ℕ) → file ≢ pending → (new file ≡ old file)
+    ⊎ ((item : ItemTree) × Contains items item × (bytes : List ℕ) × (file ≡ file_name (digest_of item) bytes)
+    × ((new file ≡ Some bytes) ⊎ (new file ≡ None)))
 
 module _ {C : Type 0} (name : C → List ℕ) (step : C → List Choice → Answer → Type 0) (checks : List C) where
   -- the record of this list on the item's check is a failure, or is none

@@ -84,17 +84,19 @@ module _ {C : Type 0} (name : C → List ℕ) (step : C → List Choice → Answ
     pub ends : reported.status ≡ 8
 
   -- Where the output failed: in the block of the last finding, and no later item had its turn; in the tail, after all items had theirs;
-  -- or in the line on the disk, or on a clash.
+  -- or in the line on the disk, or on a clash. The disk failed in the third case alone.
   abbrev pub IsCut : List Finding → Scene → Scene → Type 0
   IsCut findings old new =
       ((edits : List PairEdit) × FirstTurns name step checks seed old.disk.told items findings edits
-      × BothTell (Settled edits true) old.disk.told new.disk.told × IsLastCut findings old.sink.bytes new.sink.bytes)
+      × BothTell (Settled edits true) old.disk.told new.disk.told × IsLastCut findings old.sink.bytes new.sink.bytes
+      × (new.disk.faults ≡ old.disk.faults))
       ⊎ (((edits : List PairEdit) × AreTurns name step checks seed old.disk.told items findings edits
-      × BothTell (Settled edits true) old.disk.told new.disk.told × AreWrittenAndPart findings (tail findings) old.sink.bytes new.sink.bytes)
+      × BothTell (Settled edits true) old.disk.told new.disk.told × AreWrittenAndPart findings (tail findings) old.sink.bytes new.sink.bytes
+      × (new.disk.faults ≡ old.disk.faults))
       ⊎ ((IsHalted findings old.disk.told new.disk.told × Rose old.disk.faults new.disk.faults
       × AreWrittenAndPart findings (refusal_text Database) old.sink.bytes new.sink.bytes)
       ⊎ ((two : TwoValues) × IsClashing findings two old.disk.told new.disk.told
-      × AreWrittenAndPart findings (refusal_text Clash) old.sink.bytes new.sink.bytes)))
+      × AreWrittenAndPart findings (refusal_text Clash) old.sink.bytes new.sink.bytes × (new.disk.faults ≡ old.disk.faults))))
 
   -- the output failed
   pub record IsUnwritten (reported : Reported) (old new : Scene) : Type 0 where

@@ -1,5 +1,5 @@
 -- What the turns of items change, as it is seen at a moment.
-use Rattle.std.specs.Prelude.{◌≡◌, ℕ, Option}
+use Rattle.std.specs.Prelude.{ℕ, Option}
 use Rattle.pt_disk.specs.Moments.{Told}
 use Rattle.pt_io.specs.Sink.{Written}
 
@@ -18,8 +18,3 @@ pub record Scene : Type 0 where
 
 abbrev pub scene : ℕ → Option Told → Written → Scene
 scene faults told sink = record { disk = disk_shown faults told; sink = sink }
-
--- no call of the disk failed, and none of the output
-pub record AreQuiet (old new : Scene) : Type 0 where
-  pub disk : new.disk.faults ≡ old.disk.faults
-  pub sink : new.sink.faults ≡ old.sink.faults

@@ -3,7 +3,7 @@ ghost use Rattle.pt_ast.specs.Names.{AreDistinct};
 ghost use Rattle.pt_ast.specs.Trees.{ItemTree};
 ghost use Rattle.pt_disk.specs.Folder.{reads};
 ghost use Rattle.pt_disk.specs.Moments.{Told, now};
-ghost use Rattle.pt_edits.specs.Pairs.{PairEdit, IsAfter};
+ghost use Rattle.pt_edits.specs.Pairs.{PairEdit, StoresAfter};
 ghost use Rattle.pt_found.specs.declared.finding.Finding.{Finding};
 ghost use Rattle.pt_turns.specs.Again.{AreFoundAgain};
 ghost use Rattle.pt_turns.specs.Turns.{AreTurns};
@@ -17,7 +17,7 @@ use pt_case::Check;
 pub fn what_is_shown_is_found_again<C: Check>(checks: &[C])
     requires { AreDistinct (map C.name checks.now) }
     ensures { (seed anew : ℕ) (told telling : Told) (items : List ItemTree) (one other : List Finding) (edits more : List PairEdit)
-        → AreTurns C.name C.step checks.now seed (Some told) items one edits → IsAfter edits (reads (now told)) (reads (now telling))
+        → AreTurns C.name C.step checks.now seed (Some told) items one edits → StoresAfter edits (reads (now told)) (reads (now telling))
         → AreTurns C.name C.step checks.now anew (Some telling) items other more
         → AreFoundAgain C.name C.step checks.now seed anew [] items one other }
 {}

@@ -19,4 +19,4 @@ pub use laws::{
     workers_change_no_finding,
 };
 pub use reporting::{Reported, report, status_of};
-pub use turns::{Turned, examine_all, turn_items};
+pub use turns::examine_all;

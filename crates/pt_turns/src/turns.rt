@@ -20,7 +20,7 @@ use std::thread::Threads;
 
 /// How the turns of some items ended, with the findings of the items that had theirs.
 #[derive(Drop)]
-pub enum Turned {
+pub(crate) enum Turned {
     /// Each item had its turn.
     All(Findings),
     /// The output failed in the block of the last of these findings.
@@ -37,7 +37,7 @@ pub enum Turned {
 /// # Errors
 ///
 /// `NoMemory` where memory ran out, and for no other reason. The blocks that are written by then are whole.
-pub fn turn_items<R: Threads + Sync, C: Check, D: Disk, K: Sink>(
+pub(crate) fn turn_items<R: Threads + Sync, C: Check, D: Disk, K: Sink>(
     rt: &R,
     alloc: Global,
     items: &[Item],

@@ -20,7 +20,7 @@ returns-in-Save-clause-made g c =
     let new = g.D.Disk.tells c.save.new.self.disk.now in
     let is : c.args.edit.now ≡ Save value = c.in-Save.is ∙ ap (λ (v : List ℕ). Save v) (sym c.as_slice.ensures) in
     subst (λ (e : Edit). BothTell (Made (under digest e ∷ []) (is_ok c.answer_of.result)) told new) (sym is)
-    (answer-made key value (StoredWith digest value) (SavePair digest value) (saved-after digest value) c.save.result c.answer_of.result told new c.answer_of.ensures c.save.ensures.edits)
+    (answer-made (StoredWith digest value) (SavePair digest value) (saved-after digest value) c.save.result c.answer_of.result told new c.answer_of.ensures c.save.ensures.edits)
 
 pub returns-in-Save-clause-clash : goal.returns-in-Save-clause-clash
 returns-in-Save-clause-clash g c =
@@ -42,7 +42,7 @@ returns-in-Delete-clause-made g c =
     let answer = c.answer_of-in-Delete.result in
     let is : c.args.edit.now ≡ Delete value = c.in-Delete.is ∙ ap (λ (v : List ℕ). Delete v) (sym c.as_slice-in-Delete.ensures) in
     subst (λ (e : Edit). BothTell (Made (under digest e ∷ []) (is_ok answer)) told new) (sym is)
-    (answer-made key value (StoredWithout digest value) (DeletePair digest value) (deleted-after digest value) c.delete.result answer told new c.answer_of-in-Delete.ensures c.delete.ensures.edits)
+    (answer-made (StoredWithout digest value) (DeletePair digest value) (deleted-after digest value) c.delete.result answer told new c.answer_of-in-Delete.ensures c.delete.ensures.edits)
 
 pub returns-in-Delete-clause-clash : goal.returns-in-Delete-clause-clash
 returns-in-Delete-clause-clash g c =

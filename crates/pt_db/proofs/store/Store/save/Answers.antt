@@ -38,4 +38,4 @@ returns-in-Ok-false-clause-edits g c =
 pub returns-clause-edits : goal.returns-clause-edits
 returns-clause-edits g c =
     let digest = digest_text c.args.key.now in
-    gave-none (StoredWith digest c.args.value.now) (file_name digest c.args.value.now) (g.D.Disk.tells c.args.self.now.disk.now) _ c.in-Err.ensures.rests
+    gave-none (StoredWith digest c.args.value.now) (file_name digest c.args.value.now) (Some c.args.value.now) (g.D.Disk.tells c.args.self.now.disk.now) _ c.in-Err.ensures.rests
