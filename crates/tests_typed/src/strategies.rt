@@ -71,6 +71,8 @@ fn samples(rt: HostRuntime) -> Result<(), Fail> {
     let sampled = Sampled::of([10i64, 20].to_vec(rt.alloc())?);
     expect(&rt, 0, draws(rt.alloc(), &sampled, b"i1", b"20"));
     expect(&rt, 1, draws(rt.alloc(), &sampled, b"i0", b"10"));
+    let just = Sampled::just(rt.alloc(), 30i64)?;
+    expect(&rt, 2, draws(rt.alloc(), &just, b"i0", b"30"));
     Ok(())
 }
 
