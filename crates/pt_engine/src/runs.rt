@@ -21,7 +21,7 @@ const LARGEST: u32 = 256;
 
 /// Makes the runs 0, 1, 2 and so on, a block at a time, until they decide. With one worker a block is one run, so that
 /// none is made in vain and each record is dropped before the next run; with more the blocks grow, so that little is
-/// made in vain where a failure comes early.
+/// made in vain where a failure comes early. No block has more runs than passes are missing, so that none is made behind the last pass.
 pub(crate) fn count_runs<R: Threads + Sync, C: Check>(
     rt: &R,
     alloc: Global,
@@ -40,7 +40,7 @@ pub(crate) fn count_runs<R: Threads + Sync, C: Check>(
     let mut size = first_size(workers);
     while tally.seen < most {
         let from = tally.seen;
-        let block = block_size(size, most - from);
+        let block = block_size(size, most - from, runs - tally.valid);
         let records = batch(
             rt,
             alloc,
@@ -82,10 +82,11 @@ fn next_size(size: u32, workers: u32) -> u32
     }
 }
 
-// As many runs as the size says, but no more than are left.
-fn block_size(size: u32, left: u32) -> u32
-    requires { (1 ≤ size) × (1 ≤ left) }
-    ensures { (1 ≤ result) × (result ≤ size) × (result ≤ left) }
+// As many runs as the size says, but no more than are left, nor than passes are missing.
+fn block_size(size: u32, left: u32, missing: u32) -> u32
+    requires { (1 ≤ size) × (1 ≤ left) × (1 ≤ missing) }
+    ensures { (1 ≤ result) × (result ≤ size) × (result ≤ left) × (result ≤ missing) }
 {
-    if size <= left { size } else { left }
+    let most = if left <= missing { left } else { missing };
+    if size <= most { size } else { most }
 }

@@ -3,7 +3,7 @@
 use crate::drawn::{draws, fails};
 use crate::expect::expect;
 use crate::functions::{Doubling, Even, UpTo};
-use pt_choice::NoMemory;
+use pt_choice::{NoMemory, Octets};
 use pt_typed::{
     Blobs, Bools, DrawFail, Filter, FlatMap, Ints, ListOf, Map, OneOf, Pair, Sampled, Texts, ToVal,
 };
@@ -71,8 +71,18 @@ fn samples(rt: HostRuntime) -> Result<(), Fail> {
     let sampled = Sampled::of([10i64, 20].to_vec(rt.alloc())?);
     expect(&rt, 0, draws(rt.alloc(), &sampled, b"i1", b"20"));
     expect(&rt, 1, draws(rt.alloc(), &sampled, b"i0", b"10"));
-    let just = Sampled::just(rt.alloc(), 30i64)?;
-    expect(&rt, 2, draws(rt.alloc(), &just, b"i0", b"30"));
+    Ok(())
+}
+
+#[test]
+fn a_sample_of_one_of_each_type(rt: HostRuntime) -> Result<(), Fail> {
+    let flag = Octets::of(rt.alloc(), b"\x07")?;
+    let pair = Sampled::just(rt.alloc(), (true, flag))?;
+    expect(&rt, 0, draws(rt.alloc(), &pair, b"i0", b"(true, x\"07\")"));
+    let mut words = Vec::new(rt.alloc());
+    words.push(Chars::of(rt.alloc(), &['a'])?)?;
+    let list = Sampled::just(rt.alloc(), words)?;
+    expect(&rt, 1, draws(rt.alloc(), &list, b"i0", b"[\"a\"]"));
     Ok(())
 }
 

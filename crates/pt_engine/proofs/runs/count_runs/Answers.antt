@@ -50,6 +50,7 @@ loop-tally-preserved g c =
       c.in_ok-decision.ensures.fewer,
       omega (arith, end, to, left, room, all, both, before),
       refl,
+      rw counts.1.passing counts.0.not_enough,
     )
 
 pub loop-tally-smaller : goal.loop-tally-smaller
