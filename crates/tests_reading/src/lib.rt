@@ -10,13 +10,21 @@ mod expect;
 #[cfg(test)]
 mod faults;
 #[cfg(test)]
+mod item_faults;
+#[cfg(test)]
 mod long;
 #[cfg(test)]
 mod made;
 #[cfg(test)]
+mod read;
+#[cfg(test)]
+mod refused;
+#[cfg(test)]
 mod shown;
 #[cfg(test)]
 mod suites;
+#[cfg(test)]
+mod token_faults;
 #[cfg(test)]
 mod tokens;
 #[cfg(test)]
