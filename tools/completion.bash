@@ -15,11 +15,11 @@ _gathorni_words() {
 _gathorni() {
   local words=("${COMP_WORDS[@]}") at=$COMP_CWORD now=${COMP_WORDS[COMP_CWORD]} told=''
   COMPREPLY=()
-  if [ "${words[1]-}" = --unproved ] && [ "$at" -gt 1 ]; then
+  if [ "$at" -gt 1 ] && { [ "${words[1]}" = --unproved ] || [ "${words[1]}" = --proved ]; }; then
     words=("${words[0]}" "${words[@]:2}") at=$((at - 1))
   fi
   case $at:${words[1]} in
-    1:*) told='test run replay stored make new help --help --unproved' ;;
+    1:*) told='test run replay stored make new prove help --help --proved --unproved' ;;
     2:help) told=$(_gathorni_words "${words[0]}") ;;
     3:replay) told=$(_gathorni_items "${words[2]}") ;;
     *:test)
