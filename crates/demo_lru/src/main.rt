@@ -25,16 +25,18 @@ use pt_choice::NoMemory;
 use pt_host::{OUT_OF_MEMORY, tester};
 use pt_rules::Rule;
 use std::env::Env;
+use std::fs::File;
 use std::process::ExitCode;
 use std::rt::Files;
 use std::thread::Threads;
+use std::time::Clock;
 
 fn main(rt: HostRuntime) -> ExitCode {
     tested(&rt).unwrap_or(ExitCode::from(OUT_OF_MEMORY))
 }
 
 // Makes the checks, and does what the words ask for with them.
-fn tested<R: Env + Files + Print + AllocGlobal + Threads + Sync>(
+fn tested<R: Env + Files<File = File> + Clock + Print + AllocGlobal + Threads + Sync>(
     rt: &R,
 ) -> Result<ExitCode, NoMemory> {
     let alloc = rt.alloc();
@@ -45,7 +47,7 @@ fn tested<R: Env + Files + Print + AllocGlobal + Threads + Sync>(
 }
 
 // The same, where those in boxes are made.
-fn tested_with<R: Env + Files + Print + AllocGlobal + Threads + Sync>(
+fn tested_with<R: Env + Files<File = File> + Clock + Print + AllocGlobal + Threads + Sync>(
     rt: &R,
     cache: Box<dyn Check>,
     hex_round_trip: Box<dyn Check>,

@@ -4,15 +4,17 @@ ghost use Rattle.pt_run.specs.Message.{IsStatus};
 ghost use Rattle.pt_run.specs.Suite.{HaveOwnNames};
 
 use crate::command_line::words;
-use crate::{FolderDisk, RealFiles, StdSink};
 use pt_case::Check;
 use pt_choice::NoMemory;
+use pt_real::{FolderDisk, RealFileSystem, RealFiles, StdSink};
 use pt_run::{Finish, top};
 use std::env::Env;
+use std::fs::File;
 use std::io;
 use std::process::ExitCode;
 use std::rt::Files;
 use std::thread::Threads;
+use std::time::Clock;
 
 /// The exit status where memory ran out.
 pub const OUT_OF_MEMORY: u8 = 7;
@@ -23,7 +25,7 @@ const DATABASE: &str = "pt_examples";
 /// All that a tester does with these checks, no two of which have one name: does what the words of its command line
 /// ask for, with the files of the machine, the folder `pt_examples` below the current one and the standard output, and answers
 /// the exit status.
-pub fn tester<R: Env + Files + Print + AllocGlobal + Threads + Sync, C: Check>(
+pub fn tester<R: Env + Files<File = File> + Clock + Print + AllocGlobal + Threads + Sync, C: Check>(
     rt: &R,
     checks: &[C],
 ) -> ExitCode
@@ -33,16 +35,16 @@ pub fn tester<R: Env + Files + Print + AllocGlobal + Threads + Sync, C: Check>(
     exit_code(over_the_machine(rt, checks))
 }
 
-fn over_the_machine<R: Env + Files + Print + AllocGlobal + Threads + Sync, C: Check>(
-    rt: &R,
-    checks: &[C],
-) -> Result<Finish, NoMemory>
+fn over_the_machine<
+    R: Env + Files<File = File> + Clock + Print + AllocGlobal + Threads + Sync,
+    C: Check,
+>(rt: &R, checks: &[C]) -> Result<Finish, NoMemory>
     requires { HaveOwnNames C.name checks.now }
     ensures { IfOk result (λ finish. IsStatus finish.status) }
 {
     let words = words(rt)?;
     let mut files = RealFiles::of(rt);
-    let mut disk = FolderDisk::of(rt, rt.alloc(), DATABASE)?;
+    let mut disk = FolderDisk::of(RealFileSystem::of(rt), rt.alloc(), DATABASE)?;
     let mut sink = StdSink::of(io::writer(rt));
     top(
         rt,

@@ -19,16 +19,18 @@ use pt_host::{OUT_OF_MEMORY, tester};
 use pt_rules::Rule;
 use sorted_pair::sorted_pair;
 use std::env::Env;
+use std::fs::File;
 use std::process::ExitCode;
 use std::rt::Files;
 use std::thread::Threads;
+use std::time::Clock;
 
 fn main(rt: HostRuntime) -> ExitCode {
     tested(&rt).unwrap_or(ExitCode::from(OUT_OF_MEMORY))
 }
 
 // Makes the checks, and does what the words ask for with them.
-fn tested<R: Env + Files + Print + AllocGlobal + Threads + Sync>(
+fn tested<R: Env + Files<File = File> + Clock + Print + AllocGlobal + Threads + Sync>(
     rt: &R,
 ) -> Result<ExitCode, NoMemory> {
     let alloc = rt.alloc();
@@ -39,7 +41,7 @@ fn tested<R: Env + Files + Print + AllocGlobal + Threads + Sync>(
 }
 
 // The same, where those in boxes are made.
-fn tested_with<R: Env + Files + Print + AllocGlobal + Threads + Sync>(
+fn tested_with<R: Env + Files<File = File> + Clock + Print + AllocGlobal + Threads + Sync>(
     rt: &R,
     never: Box<dyn Check>,
     always: Box<dyn Check>,

@@ -3,12 +3,13 @@
 use pt_choice::{NoMemory, Octets};
 use pt_db::{Store, StoreFault};
 use pt_disk::{Disk, DiskFailed, DiskStop};
-use pt_host::FolderDisk;
+use pt_real::{FileSystem, FolderDisk, RealFileSystem};
 use std::alloc::Global;
-use std::fs;
+use std::fs::{self, File};
 use std::io::Write;
 use std::rt::Files;
 use std::test::Fail;
+use std::time::Clock;
 
 // A call, and what it answers.
 type Call = (&'static str, &'static str);
@@ -64,9 +65,9 @@ const FREE: [Call; 2] = [("settle", "ok"), ("read a 9", "-")];
 const MISNAMED: [&[u8]; 7] = [b"", b".", b"..", b"a/b", b"a\0b", b"\xff", &[b'a'; 256]];
 
 // What a call answers, as `put NAME BYTES` or `read NAME CAP`.
-fn answer<R: Files>(
+fn answer<S: FileSystem + Drop>(
     alloc: Global,
-    disk: &mut FolderDisk<'_, R>,
+    disk: &mut FolderDisk<S>,
     call: &str,
 ) -> Result<Octets, NoMemory> {
     match made(alloc, disk, call) {
@@ -76,9 +77,9 @@ fn answer<R: Files>(
     }
 }
 
-fn made<R: Files>(
+fn made<S: FileSystem + Drop>(
     alloc: Global,
-    disk: &mut FolderDisk<'_, R>,
+    disk: &mut FolderDisk<S>,
     call: &str,
 ) -> Result<Octets, DiskStop> {
     let mut words = call.split(' ');
@@ -122,9 +123,9 @@ fn joined(alloc: Global, names: &[Octets]) -> Result<Octets, NoMemory> {
 }
 
 // The first call that answers otherwise, or that counts a fault and does not fail, or the other way round.
-fn first_wrong<R: Files>(
+fn first_wrong<S: FileSystem + Drop>(
     alloc: Global,
-    disk: &mut FolderDisk<'_, R>,
+    disk: &mut FolderDisk<S>,
     calls: &[Call],
 ) -> Result<Option<&'static str>, NoMemory> {
     for (call, want) in calls {
@@ -141,7 +142,7 @@ fn first_wrong<R: Files>(
 #[test]
 fn a_folder_is_made_and_keeps_its_files(rt: HostRuntime) -> Result<(), Fail> {
     let alloc = rt.alloc();
-    let mut disk = FolderDisk::of(&rt, alloc, "a_folder_of_calls")?;
+    let mut disk = FolderDisk::of(RealFileSystem::of(&rt), alloc, "a_folder_of_calls")?;
     let wrong = first_wrong(alloc, &mut disk, &CALLS);
     fs::remove_dir_all(&rt, "a_folder_of_calls")?;
     assert_eq!(rt; wrong, Ok(None));
@@ -152,7 +153,7 @@ fn a_folder_is_made_and_keeps_its_files(rt: HostRuntime) -> Result<(), Fail> {
 fn a_folder_within_is_named_and_is_no_file(rt: HostRuntime) -> Result<(), Fail> {
     let alloc = rt.alloc();
     fs::create_dir_all(&rt, "a_folder_around/within")?;
-    let mut disk = FolderDisk::of(&rt, alloc, "a_folder_around")?;
+    let mut disk = FolderDisk::of(RealFileSystem::of(&rt), alloc, "a_folder_around")?;
     let wrong = first_wrong(alloc, &mut disk, &AROUND);
     fs::remove_dir_all(&rt, "a_folder_around")?;
     assert_eq!(rt; wrong, Ok(None));
@@ -160,27 +161,27 @@ fn a_folder_within_is_named_and_is_no_file(rt: HostRuntime) -> Result<(), Fail> 
 }
 
 // What stands where the folder is to be: a file, then nothing, then a file again.
-fn fails_where_a_file_stands<R: Files>(rt: &R, alloc: Global, place: &str) -> Result<bool, Fail> {
-    let mut disk = FolderDisk::of(rt, alloc, place)?;
-    fs::create(rt, place)?.write_all(b"1")?;
-    let occupied = first_wrong(alloc, &mut disk, &OCCUPIED)?;
-    fs::remove_file(rt, place)?;
-    let free = first_wrong(alloc, &mut disk, &FREE)?;
-    fs::remove_dir(rt, place)?;
-    fs::create(rt, place)?.write_all(b"1")?;
-    let replaced = first_wrong(alloc, &mut disk, &OCCUPIED[1..])?;
-    fs::remove_file(rt, place)?;
-    Ok(occupied == None && free == None && replaced == None)
-}
-
 #[test]
 fn a_folder_that_is_no_folder_fails_each_call(rt: HostRuntime) -> Result<(), Fail> {
-    assert!(rt; fails_where_a_file_stands(&rt, rt.alloc(), "a_file_for_a_folder")?);
+    let alloc = rt.alloc();
+    let place = "a_file_for_a_folder";
+    let mut disk = FolderDisk::of(RealFileSystem::of(&rt), alloc, place)?;
+    fs::create(&rt, place)?.write_all(b"1")?;
+    let occupied = first_wrong(alloc, &mut disk, &OCCUPIED);
+    fs::remove_file(&rt, place)?;
+    let free = first_wrong(alloc, &mut disk, &FREE);
+    fs::remove_dir(&rt, place)?;
+    fs::create(&rt, place)?.write_all(b"1")?;
+    let replaced = first_wrong(alloc, &mut disk, &OCCUPIED[1..]);
+    fs::remove_file(&rt, place)?;
+    assert_eq!(rt; occupied, Ok(None));
+    assert_eq!(rt; free, Ok(None));
+    assert_eq!(rt; replaced, Ok(None));
     Ok(())
 }
 
 // How many calls fail that are given this name, of which there are six: a rename is from it or to it.
-fn refusals<R: Files>(alloc: Global, disk: &mut FolderDisk<'_, R>, name: &[u8]) -> u64 {
+fn refusals<S: FileSystem + Drop>(alloc: Global, disk: &mut FolderDisk<S>, name: &[u8]) -> u64 {
     let before = disk.faults();
     let _read = disk.read(alloc, name, 9);
     let _put = disk.put(name, b"1");
@@ -192,7 +193,10 @@ fn refusals<R: Files>(alloc: Global, disk: &mut FolderDisk<'_, R>, name: &[u8]) 
 }
 
 // Whether just these names are refused, and the longest one is taken.
-fn refuses_names<R: Files>(alloc: Global, disk: &mut FolderDisk<'_, R>) -> Result<bool, DiskStop> {
+fn refuses_names<S: FileSystem + Drop>(
+    alloc: Global,
+    disk: &mut FolderDisk<S>,
+) -> Result<bool, DiskStop> {
     disk.put(b"there", b"1")?;
     for name in MISNAMED {
         if refusals(alloc, disk, name) != 6 {
@@ -206,7 +210,7 @@ fn refuses_names<R: Files>(alloc: Global, disk: &mut FolderDisk<'_, R>) -> Resul
 #[test]
 fn a_name_that_no_file_may_have_is_a_fault(rt: HostRuntime) -> Result<(), Fail> {
     let alloc = rt.alloc();
-    let mut disk = FolderDisk::of(&rt, alloc, "a_folder_of_names")?;
+    let mut disk = FolderDisk::of(RealFileSystem::of(&rt), alloc, "a_folder_of_names")?;
     let refused = refuses_names(alloc, &mut disk);
     fs::remove_dir_all(&rt, "a_folder_of_names")?;
     assert_eq!(rt; refused, Ok(true));
@@ -214,9 +218,9 @@ fn a_name_that_no_file_may_have_is_a_fault(rt: HostRuntime) -> Result<(), Fail> 
 }
 
 // Whether the value 12 is kept for a key once it was saved, and not after it was deleted.
-fn is_kept_and_deleted<R: Files>(
+fn is_kept_and_deleted<S: FileSystem + Drop>(
     alloc: Global,
-    disk: &mut FolderDisk<'_, R>,
+    disk: &mut FolderDisk<S>,
 ) -> Result<bool, StoreFault> {
     let Ok(mut store) = Store::attach(alloc, disk) else {
         return Err(StoreFault::Disk);
@@ -232,7 +236,7 @@ fn is_kept_and_deleted<R: Files>(
 #[test]
 fn a_store_keeps_its_examples_in_a_folder(rt: HostRuntime) -> Result<(), Fail> {
     let alloc = rt.alloc();
-    let mut disk = FolderDisk::of(&rt, alloc, "a_folder_of_examples")?;
+    let mut disk = FolderDisk::of(RealFileSystem::of(&rt), alloc, "a_folder_of_examples")?;
     let kept = is_kept_and_deleted(alloc, &mut disk);
     fs::remove_dir_all(&rt, "a_folder_of_examples")?;
     assert!(rt; matches!(kept, Ok(true)));

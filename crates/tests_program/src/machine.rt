@@ -1,7 +1,7 @@
 //! The files and the output of the machine.
 
-use pt_host::{RealFiles, StdSink};
 use pt_io::{IoFailed, ReadStop, read_whole, write_all};
+use pt_real::{RealFiles, StdSink};
 use std::fs;
 use std::io::{self, Error, ErrorKind, Write};
 use std::test::Fail;

@@ -1,0 +1,4 @@
+pub mod Asked
+pub mod FileNames
+pub mod Steps
+pub mod Untold
