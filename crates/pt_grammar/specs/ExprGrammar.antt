@@ -7,10 +7,10 @@ use Rattle.pt_val.specs.declared.place.Place.{Place}
 use Rattle.pt_ast.specs.declared.expr.CompareOp.{CompareOp}
 use Rattle.pt_ast.specs.declared.expr.Op.{Op}
 use Rattle.pt_ast.specs.Trees.{ExprTree, Num, Text_of, Bytes_of, Flag, Var, If_of, Or_of, And_of, Not_of, Compare_of, Sum_of, Prod_of, Neg_of, Post_of, Call_of, Bind_of, Bracket_of, Tuple_of, List_of, ExprTrees, no_expr, more_expr, TailTree, tail_of, TailTrees, no_tail, more_tail, PostTree, index_of, part_of, PostTrees, no_post, more_post}
-use Rattle.pt_lex.specs.declared.token.Token.{Token}
-use Rattle.pt_lex.specs.declared.token.Kind.{Kind}
-use Rattle.pt_lex.specs.declared.token.Kind.TheVariants as kind
-use Rattle.pt_lex.specs.declared.token.Word.TheVariants as word
+use Rattle.pt_token.specs.declared.token.Token.{Token}
+use Rattle.pt_token.specs.declared.token.Kind.{Kind}
+use Rattle.pt_token.specs.declared.token.Kind.TheVariants as kind
+use Rattle.pt_token.specs.declared.token.Word.TheVariants as word
 use Rattle.pt_grammar.specs.declared.sort.Sort.{Sort}
 use Rattle.pt_grammar.specs.Tokens.{opening, close, open_square, close_square, comma, dot, compare_of, sum_of, product_of}
 use Rattle.pt_grammar.specs.Forms.{◌⨾◌, One, OneAt, Opens, NestsAt, Fitting, IsName, Number, Magnitude, StartsAt, Part}

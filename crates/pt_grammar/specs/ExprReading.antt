@@ -6,11 +6,11 @@ use Rattle.pt_ast.specs.declared.expr.CompareOp.{CompareOp}
 use Rattle.pt_ast.specs.declared.expr.Func.{Func}
 use Rattle.pt_ast.specs.declared.expr.Op.{Op}
 use Rattle.pt_ast.specs.Trees.{ExprTree, Num, Text_of, Bytes_of, Flag, Var, If_of, Or_of, And_of, Not_of, Compare_of, Sum_of, Prod_of, Neg_of, Post_of, Call_of, Bind_of, Bracket_of, Tuple_of, List_of, exprs_of, TailTree, tail_of, tails_of, PostTree, index_of, part_of, posts_of}
-use Rattle.pt_lex.specs.declared.token.Token.{Token}
-use Rattle.pt_lex.specs.declared.token.Kind.{Kind}
-use Rattle.pt_lex.specs.declared.token.Kind.TheVariants as kind
-use Rattle.pt_lex.specs.declared.token.Mark.TheVariants as mark
-use Rattle.pt_lex.specs.declared.token.Word.TheVariants as word
+use Rattle.pt_token.specs.declared.token.Token.{Token}
+use Rattle.pt_token.specs.declared.token.Kind.{Kind}
+use Rattle.pt_token.specs.declared.token.Kind.TheVariants as kind
+use Rattle.pt_token.specs.declared.token.Mark.TheVariants as mark
+use Rattle.pt_token.specs.declared.token.Word.TheVariants as word
 use Rattle.pt_grammar.specs.declared.sort.Sort.{Sort}
 use Rattle.pt_grammar.specs.declared.sort.Sort.TheVariants as sort
 use Rattle.pt_grammar.specs.Tokens.{compare_of, sum_of, product_of}

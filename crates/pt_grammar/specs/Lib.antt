@@ -4,10 +4,8 @@ pub mod TypeGrammar
 pub mod ExprGrammar
 pub mod StratGrammar
 pub mod SuiteGrammar
-pub mod Faults
 pub mod Reading
 pub mod TypeReading
 pub mod ExprReading
 pub mod StratReading
 pub mod SuiteReading
-pub mod Laws

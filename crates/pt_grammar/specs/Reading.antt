@@ -2,11 +2,11 @@
 use Rattle.std.specs.Prelude.{◌≡◌, ℕ, zero, suc, ◌-◌, ◌==◌, ◌^◌, ◌&&◌, nat_lt, nat_le, pos, neg_ℤ, ℤ, List, [], ◌∷◌, ◌++◌, length, Result, Ok, Err, if◌then◌else◌, Bool, true, false, Option, Some, None}
 use Rattle.pt_val.specs.declared.place.Place.{Place}
 use Rattle.pt_ast.specs.declared.ident.Ident.{Ident}
-use Rattle.pt_lex.specs.declared.token.Token.{Token}
-use Rattle.pt_lex.specs.declared.token.Kind.{Kind}
-use Rattle.pt_lex.specs.declared.token.Kind.TheVariants as kind
-use Rattle.pt_lex.specs.declared.token.Mark.TheVariants as mark
-use Rattle.pt_lex.specs.declared.token.Word.TheVariants as word
+use Rattle.pt_token.specs.declared.token.Token.{Token}
+use Rattle.pt_token.specs.declared.token.Kind.{Kind}
+use Rattle.pt_token.specs.declared.token.Kind.TheVariants as kind
+use Rattle.pt_token.specs.declared.token.Mark.TheVariants as mark
+use Rattle.pt_token.specs.declared.token.Word.TheVariants as word
 use Rattle.pt_grammar.specs.declared.sort.Sort.{Sort}
 use Rattle.pt_grammar.specs.declared.sort.Sort.TheVariants as sort
 

@@ -3,9 +3,9 @@ use Rattle.std.specs.Prelude.{◌≡◌, ◌⊎◌, ℕ, ◌+◌, ◌-◌, ◌<�
 use Rattle.pt_ast.specs.declared.strat.Alphabet.{Alphabet}
 use Rattle.pt_ast.specs.Trees.{StratTree, Ints_of, Bools_of, Texts_of, Blobs_of, Sampled_of, Lists_of, Tuples_of, OneOf_of, Map_of, Filter_of, FlatMap_of, Recursive_of, Self_of, StratTrees, no_strat, more_strat}
 use Rattle.pt_ast.specs.Numbers.{strat_numbers}
-use Rattle.pt_lex.specs.declared.token.Token.{Token}
-use Rattle.pt_lex.specs.declared.token.Kind.TheVariants as kind
-use Rattle.pt_lex.specs.declared.token.Word.TheVariants as word
+use Rattle.pt_token.specs.declared.token.Token.{Token}
+use Rattle.pt_token.specs.declared.token.Kind.TheVariants as kind
+use Rattle.pt_token.specs.declared.token.Word.TheVariants as word
 use Rattle.pt_grammar.specs.declared.sort.Sort.{Sort}
 use Rattle.pt_grammar.specs.Tokens.{IsReal, opening, close, comma}
 use Rattle.pt_grammar.specs.Forms.{◌⨾◌, One, OneAt, Opens, MindsAll, IsName, Limited, Part}

@@ -5,9 +5,9 @@ use Rattle.pt_ast.specs.declared.ident.Ident.{Ident}
 use Rattle.pt_ast.specs.declared.suite.Settings.{Settings}
 use Rattle.pt_ast.specs.Trees.{ExprTree, StmtTree, Draw_of, Let_of, Assume_of, Assert_of, Pick_of, Set_of, Give_of, StateTree, BundleTree, InvariantTree, RuleTree, MachineTree, BodyTree, Check_of, Property_of, Machine_of, ItemTree, SuiteTree}
 use Rattle.pt_ast.specs.Numbers.{stmt_numbers, stmts_numbers, body_numbers}
-use Rattle.pt_lex.specs.declared.token.Token.{Token}
-use Rattle.pt_lex.specs.declared.token.Kind.TheVariants as kind
-use Rattle.pt_lex.specs.declared.token.Word.TheVariants as word
+use Rattle.pt_token.specs.declared.token.Token.{Token}
+use Rattle.pt_token.specs.declared.token.Kind.TheVariants as kind
+use Rattle.pt_token.specs.declared.token.Word.TheVariants as word
 use Rattle.pt_grammar.specs.declared.sort.Sort.{Sort}
 use Rattle.pt_grammar.specs.Tokens.{open_brace, close_brace, semicolon, colon, assign, ending}
 use Rattle.pt_grammar.specs.Forms.{◌⨾◌, One, OneAt, Opens, IsName, Limited, Part, Series}

@@ -6,10 +6,10 @@ use Rattle.pt_ast.specs.declared.ident.Ident.{Ident}
 use Rattle.pt_ast.specs.declared.suite.Settings.{Settings}
 use Rattle.pt_ast.specs.Trees.{ExprTree, StmtTree, Draw_of, Let_of, Assume_of, Assert_of, Pick_of, Set_of, Give_of, StateTree, BundleTree, InvariantTree, RuleTree, MachineTree, BodyTree, Check_of, Property_of, Machine_of, ItemTree, SuiteTree}
 use Rattle.pt_ast.specs.Numbers.{stmt_numbers, stmts_numbers, body_numbers}
-use Rattle.pt_lex.specs.declared.token.Token.{Token}
-use Rattle.pt_lex.specs.declared.token.Kind.{Kind}
-use Rattle.pt_lex.specs.declared.token.Kind.TheVariants as kind
-use Rattle.pt_lex.specs.declared.token.Word.TheVariants as word
+use Rattle.pt_token.specs.declared.token.Token.{Token}
+use Rattle.pt_token.specs.declared.token.Kind.{Kind}
+use Rattle.pt_token.specs.declared.token.Kind.TheVariants as kind
+use Rattle.pt_token.specs.declared.token.Word.TheVariants as word
 use Rattle.pt_grammar.specs.declared.sort.Sort.TheVariants as sort
 use Rattle.pt_grammar.specs.SuiteGrammar.{Setting, Runs_of, Shrink_of, Steps_of, Allowed, all_settings, without, settled, defaults}
 use Rattle.pt_grammar.specs.Reading.{Fault, at, Reading, ◌>>=◌, one_at, word_at, open_at, name_at, limited_at, is_open_brace, is_close_brace, is_semicolon, is_colon, is_assign, is_from, all_at, maybe_at, room_at, less_room}

@@ -4,11 +4,11 @@ use Rattle.std.specs.List.{AllByRecursion}
 use Rattle.pt_ast.specs.declared.expr.CompareOp.{CompareOp}
 use Rattle.pt_ast.specs.declared.expr.Op.{Op}
 use Rattle.pt_ast.specs.declared.expr.Op.TheVariants as op
-use Rattle.pt_lex.specs.declared.token.Token.{Token}
-use Rattle.pt_lex.specs.declared.token.Kind.{Kind}
-use Rattle.pt_lex.specs.declared.token.Kind.TheVariants as kind
-use Rattle.pt_lex.specs.declared.token.Mark.TheVariants as mark
-use Rattle.pt_lex.specs.Lexing.{EndOnce}
+use Rattle.pt_token.specs.declared.token.Token.{Token}
+use Rattle.pt_token.specs.declared.token.Kind.{Kind}
+use Rattle.pt_token.specs.declared.token.Kind.TheVariants as kind
+use Rattle.pt_token.specs.declared.token.Mark.TheVariants as mark
+use Rattle.pt_token.specs.Ending.{EndOnce}
 
 -- A token of a text stands on a line from 1 on. One on line 0 stands in no text: with such tokens a text that was
 -- cut off is ended, and no bound is minded at them.

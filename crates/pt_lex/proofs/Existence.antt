@@ -13,10 +13,11 @@ use Rattle.pt_wire.specs.Printed.{PrintedByte}
 use Rattle.pt_wire.specs.Spelling.{Splits}
 use Rattle.pt_wire.proofs.Chains.{IsPrefixFree}
 use Rattle.pt_wire.proofs.PrintedBytes.{bytes_free}
-use Rattle.pt_lex.specs.declared.token.Kind.{Kind}
-use Rattle.pt_lex.specs.declared.token.Kind.TheVariants as kind
-use Rattle.pt_lex.specs.declared.token.Token.{Token}
-use Rattle.pt_lex.specs.Lexing.{Lexed, NotUtf8At, TokensOf, is_last, token_behind}
+use Rattle.pt_token.specs.declared.token.Kind.{Kind}
+use Rattle.pt_token.specs.declared.token.Kind.TheVariants as kind
+use Rattle.pt_token.specs.declared.token.Token.{Token}
+use Rattle.pt_token.specs.Ending.{is_last}
+use Rattle.pt_lex.specs.Lexing.{Lexed, NotUtf8At, TokensOf, token_behind}
 use Rattle.pt_lex.specs.Outcome.{Outcome}
 use Rattle.pt_lex.specs.Places.{place_behind}
 use Rattle.pt_lex.specs.Texts.{Closes, IsCode, SpellsChar, hex_value, is_hex, is_plain}

@@ -6,8 +6,8 @@ use Rattle.std.proofs.lemmas.Bool.Decides.{nat_tests}
 use Rattle.pt_val.specs.Name.{is_letter, is_name_byte}
 use Rattle.pt_wire.specs.Printed.{PrintedByte}
 use Rattle.pt_wire.proofs.PrintedBytes.{bytes_free}
-use Rattle.pt_lex.specs.declared.token.Kind.{Kind}
-use Rattle.pt_lex.specs.declared.token.Kind.TheVariants as kind
+use Rattle.pt_token.specs.declared.token.Kind.{Kind}
+use Rattle.pt_token.specs.declared.token.Kind.TheVariants as kind
 use Rattle.pt_lex.specs.Outcome.{Takes, Refused}
 use Rattle.pt_lex.specs.Texts.{Closes, IsHexed}
 use Rattle.pt_lex.specs.Tokens.{Spelled, TellsNumber, BeginsBytes}

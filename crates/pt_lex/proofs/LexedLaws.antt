@@ -4,14 +4,15 @@ use Rattle.std.specs.List.{list_all}
 use Rattle.std.proofs.lemmas.List.{append_cancel_right, take_all}
 use Rattle.pt_val.specs.Name.{is_letter, is_digit, is_name_byte}
 use Rattle.pt_val.specs.declared.place.Place.{Place}
-use Rattle.pt_lex.specs.declared.token.Token.{Token}
-use Rattle.pt_lex.specs.declared.token.Kind.{Kind}
-use Rattle.pt_lex.specs.declared.token.Kind.TheVariants as kind
-use Rattle.pt_lex.specs.declared.token.Mark.{Mark}
-use Rattle.pt_lex.specs.declared.token.Mark.TheVariants as mark
+use Rattle.pt_token.specs.declared.token.Token.{Token}
+use Rattle.pt_token.specs.declared.token.Kind.{Kind}
+use Rattle.pt_token.specs.declared.token.Kind.TheVariants as kind
+use Rattle.pt_token.specs.declared.token.Mark.{Mark}
+use Rattle.pt_token.specs.declared.token.Mark.TheVariants as mark
 use Rattle.pt_ast.specs.declared.expr.CompareOp.TheVariants as compare
 use Rattle.pt_lex.specs.Gaps.{is_blank, IsGap, IsLastGap, IsPastGap}
-use Rattle.pt_lex.specs.Lexing.{Lexed, is_last, token_behind}
+use Rattle.pt_token.specs.Ending.{is_last}
+use Rattle.pt_lex.specs.Lexing.{Lexed, token_behind}
 use Rattle.pt_lex.specs.Marks.{mark_text}
 use Rattle.pt_lex.specs.Numbers.{is_number}
 use Rattle.pt_lex.specs.Outcome.{Outcome, Refused, Takes}

@@ -2,10 +2,10 @@
 use Rattle.std.proofs.Common.{◌≡◌, ◌⊎◌, ℕ, Bool, true, false, ◌&&◌, ◌≤◌, nat_le, List, [], ◌∷◌, ◌++◌, length, take, drop, inl, inr, refl, sym, ap, subst, ◌∙◌, arith}
 use Rattle.std.specs.List.{list_all}
 use Rattle.std.proofs.lemmas.List.{take_at, take-append-drop}
-use Rattle.pt_lex.specs.declared.token.Kind.{Kind}
-use Rattle.pt_lex.specs.declared.token.Kind.TheVariants as kind
-use Rattle.pt_lex.specs.declared.token.Mark.{Mark}
-use Rattle.pt_lex.specs.declared.token.Mark.TheVariants as mark
+use Rattle.pt_token.specs.declared.token.Kind.{Kind}
+use Rattle.pt_token.specs.declared.token.Kind.TheVariants as kind
+use Rattle.pt_token.specs.declared.token.Mark.{Mark}
+use Rattle.pt_token.specs.declared.token.Mark.TheVariants as mark
 use Rattle.pt_ast.specs.declared.expr.CompareOp.TheVariants as compare
 use Rattle.pt_lex.specs.Marks.{mark_text}
 use Rattle.pt_lex.specs.Tokens.{Spelled, BeginsBytes}

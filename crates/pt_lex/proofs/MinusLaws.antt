@@ -1,8 +1,8 @@
 -- Minus signs.
 use Rattle.std.proofs.Common.{◌≡◌, ◌≢◌, ℕ, Bool, true, false, List, [], ◌∷◌, length, inl, refl, ap, ◌∙◌, arith}
 use Rattle.pt_val.specs.Name.{is_digit}
-use Rattle.pt_lex.specs.declared.token.Kind.{Kind}
-use Rattle.pt_lex.specs.declared.token.Kind.TheVariants as kind
+use Rattle.pt_token.specs.declared.token.Kind.{Kind}
+use Rattle.pt_token.specs.declared.token.Kind.TheVariants as kind
 use Rattle.pt_lex.specs.Gaps.{is_blank}
 use Rattle.pt_lex.specs.Tokens.{NumberFollows, Spelled, TellsNumber}
 use Rattle.pt_lex.specs.reading.Gap.{gap_on}

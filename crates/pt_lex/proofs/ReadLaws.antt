@@ -1,7 +1,7 @@
 -- What is read of a token, by what stands first.
 use Rattle.std.proofs.Common.{◌≡◌, ℕ, true, false, ◌==◌, List, [], ◌∷◌, take, Result, Ok, Err, IfOk, refl, sym, ap, subst, ◌∙◌, arith, true≢false}
 use Rattle.pt_val.specs.Name.{is_digit, is_letter}
-use Rattle.pt_lex.specs.declared.token.Kind.{Kind}
+use Rattle.pt_token.specs.declared.token.Kind.{Kind}
 use Rattle.pt_lex.specs.Outcome.{Outcome, StartsLetter}
 use Rattle.pt_lex.specs.reading.Mark.{mark_token}
 use Rattle.pt_lex.specs.reading.Number.{minus_token, number_token}

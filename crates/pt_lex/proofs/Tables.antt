@@ -1,9 +1,9 @@
 -- Words and marks as tables.
 use Rattle.std.proofs.Common.{◌≡◌, ℕ, ◌≤◌, true, false, length, drop, take, List, ◌∷◌, Some, None, sym, refl}
 use Rattle.std.proofs.lemmas.List.{drop_all}
-use Rattle.pt_lex.specs.declared.token.Kind.TheVariants as kind
-use Rattle.pt_lex.specs.declared.token.Mark.{Mark}
-use Rattle.pt_lex.specs.declared.token.Word.{Word}
+use Rattle.pt_token.specs.declared.token.Kind.TheVariants as kind
+use Rattle.pt_token.specs.declared.token.Mark.{Mark}
+use Rattle.pt_token.specs.declared.token.Word.{Word}
 use Rattle.pt_lex.specs.Marks.{mark_text}
 use Rattle.pt_lex.specs.Words.{word_text}
 use Rattle.pt_lex.specs.reading.Mark.{mark_among}

@@ -2,12 +2,12 @@
 use Rattle.std.proofs.Common.{◌≡◌, ◌⊎◌, ℕ, true, false, ◌==◌, ◌&&◌, ◌||◌, not, if◌then◌else◌, List, [], ◌∷◌, ◌++◌, length, refl, sym, subst, ◌∙◌, arith}
 use Rattle.std.specs.List.{list_all}
 use Rattle.pt_val.specs.Name.{is_letter, is_digit}
-use Rattle.pt_lex.specs.declared.token.Kind.{Kind}
-use Rattle.pt_lex.specs.declared.token.Kind.TheVariants as kind
-use Rattle.pt_lex.specs.declared.token.Mark.{Mark}
-use Rattle.pt_lex.specs.declared.token.Mark.TheVariants as mark
-use Rattle.pt_lex.specs.declared.token.Word.{Word}
-use Rattle.pt_lex.specs.declared.token.Word.TheVariants as word
+use Rattle.pt_token.specs.declared.token.Kind.{Kind}
+use Rattle.pt_token.specs.declared.token.Kind.TheVariants as kind
+use Rattle.pt_token.specs.declared.token.Mark.{Mark}
+use Rattle.pt_token.specs.declared.token.Mark.TheVariants as mark
+use Rattle.pt_token.specs.declared.token.Word.{Word}
+use Rattle.pt_token.specs.declared.token.Word.TheVariants as word
 use Rattle.pt_ast.specs.declared.expr.Binder.TheVariants as binder
 use Rattle.pt_ast.specs.declared.expr.CompareOp.TheVariants as compare
 use Rattle.pt_ast.specs.declared.expr.Func.TheVariants as func

@@ -2,8 +2,8 @@
 use Rattle.std.proofs.Common.{◌≡◌, ℕ, Bool, true, false, ◌==◌, ◌||◌, if◌then◌else◌, ◌≤◌, ◌<◌, nat_lt, List, [], ◌∷◌, ◌++◌, length, inl, inr, refl, sym, ap, subst, ◌∙◌, append_assoc, arith, length-append}
 use Rattle.std.specs.List.{list_all}
 use Rattle.pt_wire.proofs.Chains.{IsPrefixFree}
-use Rattle.pt_lex.specs.declared.token.Kind.{Kind}
-use Rattle.pt_lex.specs.declared.token.Kind.TheVariants as kind
+use Rattle.pt_token.specs.declared.token.Kind.{Kind}
+use Rattle.pt_token.specs.declared.token.Kind.TheVariants as kind
 use Rattle.pt_lex.specs.Outcome.{Takes, Refused}
 use Rattle.pt_lex.specs.Texts.{Closes, IsQuoted, SpellsChar, hex_on, is_hex, is_plain}
 use Rattle.pt_lex.specs.Tokens.{Spelled, TellsNumber}

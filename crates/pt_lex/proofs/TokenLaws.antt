@@ -1,6 +1,6 @@
 -- One token at the front.
 use Rattle.std.proofs.Common.{◌≡◌, ℕ, List, ◌++◌, refl, sym, subst, ◌∙◌, arith}
-use Rattle.pt_lex.specs.declared.token.Kind.{Kind}
+use Rattle.pt_token.specs.declared.token.Kind.{Kind}
 use Rattle.pt_lex.specs.Outcome.{Refused, Takes}
 use Rattle.pt_lex.specs.Tokens.{IsToken, Spelled, TellsNumber}
 use Rattle.pt_lex.proofs.Fronts.{same_front}

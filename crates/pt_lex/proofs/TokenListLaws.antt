@@ -4,10 +4,11 @@ use Rattle.std.specs.List.{AllByRecursion}
 use Rattle.std.proofs.lemmas.List.{take_all}
 use Rattle.std.proofs.lemmas.Str.{utf8_valid_len-IsValidUpTo}
 use Rattle.pt_val.specs.declared.place.Place.{Place}
-use Rattle.pt_lex.specs.declared.token.Token.{Token}
-use Rattle.pt_lex.specs.declared.token.Kind.{Kind}
-use Rattle.pt_lex.specs.declared.token.Kind.TheVariants as kind
-use Rattle.pt_lex.specs.Lexing.{Encoded, EndOnce, Lexed, NotUtf8At, TokensOf, is_last, token_behind}
+use Rattle.pt_token.specs.declared.token.Token.{Token}
+use Rattle.pt_token.specs.declared.token.Kind.{Kind}
+use Rattle.pt_token.specs.declared.token.Kind.TheVariants as kind
+use Rattle.pt_token.specs.Ending.{EndOnce, is_last}
+use Rattle.pt_lex.specs.Lexing.{Encoded, Lexed, NotUtf8At, TokensOf, token_behind}
 use Rattle.pt_lex.specs.Places.{place_behind}
 use Rattle.pt_lex.specs.Tokens.{Spelled}
 use Rattle.pt_lex.proofs.Encodings.{fewer_chars, one_text}

@@ -5,9 +5,9 @@
 use Rattle.std.specs.Prelude.{◌≡◌, ◌⊎◌, ℕ, Bool, true, false, List, [], ◌∷◌, ◌++◌, take}
 use Rattle.std.specs.Str.{all_scalars, encode_utf8_all, IsValidUpTo}
 use Rattle.pt_val.specs.declared.place.Place.{Place}
-use Rattle.pt_lex.specs.declared.token.Token.{Token}
-use Rattle.pt_lex.specs.declared.token.Kind.{Kind}
-use Rattle.pt_lex.specs.declared.token.Kind.TheVariants as kind
+use Rattle.pt_token.specs.declared.token.Token.{Token}
+use Rattle.pt_token.specs.declared.token.Kind.{Kind}
+use Rattle.pt_token.specs.declared.token.Kind.TheVariants as kind
 use Rattle.pt_lex.specs.Gaps.{IsGap, IsLastGap, IsPastGap}
 use Rattle.pt_lex.specs.Places.{place_behind}
 use Rattle.pt_lex.specs.Tokens.{IsToken}
@@ -38,15 +38,3 @@ TokensOf bytes tokens = (text : List ℕ) × Encoded text bytes × Lexed [] text
 -- bytes that are not UTF-8, from behind the longest front on that is
 abbrev pub NotUtf8At : List ℕ → Place → Type 0
 NotUtf8At bytes place = (valid : ℕ) × (text : List ℕ) × IsValidUpTo bytes valid × Encoded text (take valid bytes) × (place ≡ place_behind text)
-
--- no token follows it
-abbrev pub is_last : Kind → Bool
-is_last kind.Malformed = true
-is_last kind.End = true
-is_last other = false
-
--- the end of the text or a malformed token is the last, and no other is
-abbrev pub EndOnce : List Token → Type 0
-EndOnce [] = ⊥
-EndOnce (last ∷ []) = is_last last.kind ≡ true
-EndOnce (first ∷ second ∷ others) = (is_last first.kind ≡ false) × EndOnce (second ∷ others)

@@ -2,8 +2,8 @@
 use Rattle.std.specs.Prelude.{ℕ, List, codes}
 use Rattle.pt_ast.specs.declared.expr.CompareOp.{CompareOp}
 use Rattle.pt_ast.specs.declared.expr.CompareOp.TheVariants as compare
-use Rattle.pt_lex.specs.declared.token.Mark.{Mark}
-use Rattle.pt_lex.specs.declared.token.Mark.TheVariants as mark
+use Rattle.pt_token.specs.declared.token.Mark.{Mark}
+use Rattle.pt_token.specs.declared.token.Mark.TheVariants as mark
 
 -- a comparison, as it is written
 abbrev pub compare_text : CompareOp → List ℕ

@@ -1,8 +1,8 @@
 -- What stands at the front of a text.
 use Rattle.std.specs.Prelude.{◌≡◌, ◌⊎◌, ℕ, ◌≤◌, true, List, [], ◌∷◌, ◌++◌, length}
 use Rattle.pt_val.specs.Name.{is_letter}
-use Rattle.pt_lex.specs.declared.token.Kind.{Kind}
-use Rattle.pt_lex.specs.declared.token.Kind.TheVariants as kind
+use Rattle.pt_token.specs.declared.token.Kind.{Kind}
+use Rattle.pt_token.specs.declared.token.Kind.TheVariants as kind
 use Rattle.pt_lex.specs.Tokens.{BeginsBytes, Spelled, TellsNumber}
 
 -- a token of this kind and no other, with this behind it

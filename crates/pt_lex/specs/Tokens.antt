@@ -1,8 +1,8 @@
 -- One token, and what may follow it.
 use Rattle.std.specs.Prelude.{◌≡◌, ℕ, ◌<◌, ◌≤◌, true, false, List, [], ◌∷◌, ◌++◌, length, min}
 use Rattle.pt_val.specs.Name.{is_digit}
-use Rattle.pt_lex.specs.declared.token.Kind.{Kind}
-use Rattle.pt_lex.specs.declared.token.Kind.TheVariants as kind
+use Rattle.pt_token.specs.declared.token.Kind.{Kind}
+use Rattle.pt_token.specs.declared.token.Kind.TheVariants as kind
 use Rattle.pt_lex.specs.Gaps.{IsGap}
 use Rattle.pt_lex.specs.Marks.{mark_text}
 use Rattle.pt_lex.specs.Numbers.{is_number, number_on, most_number}

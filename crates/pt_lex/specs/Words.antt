@@ -6,8 +6,8 @@ use Rattle.pt_ast.specs.declared.expr.Binder.{Binder}
 use Rattle.pt_ast.specs.declared.expr.Binder.TheVariants as binder
 use Rattle.pt_ast.specs.declared.expr.Func.{Func}
 use Rattle.pt_ast.specs.declared.expr.Func.TheVariants as func
-use Rattle.pt_lex.specs.declared.token.Word.{Word}
-use Rattle.pt_lex.specs.declared.token.Word.TheVariants as word
+use Rattle.pt_token.specs.declared.token.Word.{Word}
+use Rattle.pt_token.specs.declared.token.Word.TheVariants as word
 
 -- a function of the language, as it is written
 abbrev pub func_text : Func → List ℕ

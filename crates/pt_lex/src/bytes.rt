@@ -5,9 +5,9 @@ ghost use Rattle.pt_lex.specs.Outcome.{Outcome};
 ghost use Rattle.pt_lex.specs.Texts.{Closes};
 ghost use Rattle.pt_lex.specs.reading.Text.{bytes_kind};
 
-use crate::Kind;
 use crate::hex::hex_digit;
 use pt_choice::{NoMemory, Octets};
+use pt_token::Kind;
 use std::alloc::Global;
 
 const MOST_BYTES: usize = 64;

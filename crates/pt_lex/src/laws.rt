@@ -1,8 +1,9 @@
 ghost use Rattle.std.specs.Prelude.{◌≡◌, ◌⊎◌, ◌+◌, ◌<◌, ◌≤◌, ℕ, List, length};
 ghost use Rattle.std.specs.List.{AllByRecursion};
 ghost use Rattle.pt_val.specs.declared.place.Place.{Place};
-ghost use Rattle.pt_lex.specs.declared.token.Token.{Token};
-ghost use Rattle.pt_lex.specs.Lexing.{EndOnce, NotUtf8At, TokensOf};
+ghost use Rattle.pt_token.specs.declared.token.Token.{Token};
+ghost use Rattle.pt_token.specs.Ending.{EndOnce};
+ghost use Rattle.pt_lex.specs.Lexing.{NotUtf8At, TokensOf};
 
 /// A text has one list of tokens at most.
 pub fn one_token_list()

@@ -1,9 +1,11 @@
 ghost use Rattle.std.specs.Prelude.{◌≡◌, ◌∷◌, ◌<◌, ◌^◌, ℕ, List, [], IfOk, length};
 ghost use Rattle.pt_val.specs.declared.place.Place.{Place};
-ghost use Rattle.pt_lex.specs.declared.token.Token.{Token};
-ghost use Rattle.pt_lex.specs.Lexing.{Lexed, NotUtf8At, TokensOf, is_last};
+ghost use Rattle.pt_token.specs.declared.token.Token.{Token};
+ghost use Rattle.pt_token.specs.Ending.{is_last};
+ghost use Rattle.pt_lex.specs.Lexing.{Lexed, NotUtf8At, TokensOf};
 ghost use Rattle.pt_lex.specs.Outcome.{Outcome, StartsLetter};
 
+use crate::LexStop;
 use crate::bytes::read_bytes;
 use crate::characters::characters;
 use crate::gaps::behind_gap;
@@ -12,8 +14,8 @@ use crate::numbers::{read_minus, read_number};
 use crate::places::place_past;
 use crate::texts::read_text;
 use crate::words::read_word;
-use crate::{Kind, LexStop, Token};
 use pt_choice::{NoMemory, Seq};
+use pt_token::{Kind, Token};
 use pt_val::Place;
 use std::alloc::Global;
 

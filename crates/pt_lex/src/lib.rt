@@ -14,7 +14,6 @@ mod marks;
 mod numbers;
 mod places;
 mod texts;
-mod token;
 mod words;
 
 pub use characters::LexStop;
@@ -22,4 +21,5 @@ pub use laws::{
     every_text_has_tokens, one_place_not_utf8, one_token_list, tokens_are_utf8, tokens_end_once,
 };
 pub use lexing::tokens_of;
-pub use token::{Kind, Mark, Token, Word};
+pub use marks::mark_text;
+pub use words::word_text;

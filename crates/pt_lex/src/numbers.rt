@@ -1,8 +1,8 @@
 ghost use Rattle.std.specs.Prelude.{◌≡◌};
 ghost use Rattle.pt_lex.specs.reading.Number.{digits_on, minus_token, number_follows, number_token};
 
-use crate::Kind;
 use crate::gaps::behind_gap;
+use pt_token::Kind;
 
 /// The number at the front, and what follows it.
 pub(crate) fn read_number(text: &[char]) -> (Kind, &[char])

@@ -4,9 +4,9 @@ ghost use Rattle.pt_lex.specs.Outcome.{Outcome};
 ghost use Rattle.pt_lex.specs.Texts.{Closes, IsCode, SpellsChar, is_plain};
 ghost use Rattle.pt_lex.specs.reading.Text.{code_on, text_kind, Finds};
 
-use crate::Kind;
 use crate::hex::hex_digit;
 use pt_choice::NoMemory;
+use pt_token::Kind;
 use pt_val::Chars;
 use std::alloc::Global;
 

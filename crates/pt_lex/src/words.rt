@@ -4,9 +4,9 @@ ghost use Rattle.pt_lex.specs.Outcome.{StartsLetter};
 ghost use Rattle.pt_lex.specs.Words.{word_text};
 ghost use Rattle.pt_lex.specs.reading.Word.{behind_word, all_words, same_text, word_among, word_token};
 
-use crate::{Kind, Word};
 use pt_ast::{Binder, Func};
 use pt_choice::{NoMemory, Octets};
+use pt_token::{Kind, Word};
 use pt_val::Name;
 use std::alloc::Global;
 
@@ -76,74 +76,72 @@ const WORDS: [Word; 61] = [
 
 const MOST_CHARS: usize = 40;
 
-impl Word {
-    /// The word as it is written.
-    pub fn text(self) -> &'static [u8]
-        ensures { result.now ≡ word_text self }
-    {
-        match self {
-            Word::Property => b"property",
-            Word::Machine => b"machine",
-            Word::Check => b"check",
-            Word::Runs => b"runs",
-            Word::Shrink => b"shrink",
-            Word::Steps => b"steps",
-            Word::State => b"state",
-            Word::Bundle => b"bundle",
-            Word::Invariant => b"invariant",
-            Word::Rule => b"rule",
-            Word::When => b"when",
-            Word::Into => b"into",
-            Word::Draw => b"draw",
-            Word::Let => b"let",
-            Word::Assume => b"assume",
-            Word::Assert => b"assert",
-            Word::Pick => b"pick",
-            Word::From => b"from",
-            Word::Set => b"set",
-            Word::Give => b"give",
-            Word::If => b"if",
-            Word::Then => b"then",
-            Word::Else => b"else",
-            Word::And => b"and",
-            Word::Or => b"or",
-            Word::Not => b"not",
-            Word::True => b"true",
-            Word::False => b"false",
-            Word::Ints => b"ints",
-            Word::Bools => b"bools",
-            Word::Texts => b"texts",
-            Word::Blobs => b"blobs",
-            Word::SampledFrom => b"sampled_from",
-            Word::Lists => b"lists",
-            Word::Tuples => b"tuples",
-            Word::OneOf => b"one_of",
-            Word::Map => b"map",
-            Word::Filter => b"filter",
-            Word::FlatMap => b"flatmap",
-            Word::Recursive => b"recursive",
-            Word::Again => b"self",
-            Word::Int => b"int",
-            Word::Bool => b"bool",
-            Word::Text => b"text",
-            Word::Bytes => b"bytes",
-            Word::Tree => b"tree",
-            Word::List => b"list",
-            Word::Tuple => b"tuple",
-            Word::Func(Func::Len) => b"len",
-            Word::Func(Func::Has) => b"has",
-            Word::Func(Func::Sum) => b"sum",
-            Word::Func(Func::Cat) => b"cat",
-            Word::Func(Func::Rev) => b"rev",
-            Word::Func(Func::Leaf) => b"leaf",
-            Word::Func(Func::Node) => b"node",
-            Word::Func(Func::Label) => b"label",
-            Word::Func(Func::Kids) => b"kids",
-            Word::Func(Func::Labels) => b"labels",
-            Word::Binder(Binder::All) => b"all",
-            Word::Binder(Binder::Any) => b"any",
-            Word::Binder(Binder::Each) => b"each",
-        }
+/// A reserved word as it is written.
+pub fn word_text(word: Word) -> &'static [u8]
+    ensures { result.now ≡ word_text word }
+{
+    match word {
+        Word::Property => b"property",
+        Word::Machine => b"machine",
+        Word::Check => b"check",
+        Word::Runs => b"runs",
+        Word::Shrink => b"shrink",
+        Word::Steps => b"steps",
+        Word::State => b"state",
+        Word::Bundle => b"bundle",
+        Word::Invariant => b"invariant",
+        Word::Rule => b"rule",
+        Word::When => b"when",
+        Word::Into => b"into",
+        Word::Draw => b"draw",
+        Word::Let => b"let",
+        Word::Assume => b"assume",
+        Word::Assert => b"assert",
+        Word::Pick => b"pick",
+        Word::From => b"from",
+        Word::Set => b"set",
+        Word::Give => b"give",
+        Word::If => b"if",
+        Word::Then => b"then",
+        Word::Else => b"else",
+        Word::And => b"and",
+        Word::Or => b"or",
+        Word::Not => b"not",
+        Word::True => b"true",
+        Word::False => b"false",
+        Word::Ints => b"ints",
+        Word::Bools => b"bools",
+        Word::Texts => b"texts",
+        Word::Blobs => b"blobs",
+        Word::SampledFrom => b"sampled_from",
+        Word::Lists => b"lists",
+        Word::Tuples => b"tuples",
+        Word::OneOf => b"one_of",
+        Word::Map => b"map",
+        Word::Filter => b"filter",
+        Word::FlatMap => b"flatmap",
+        Word::Recursive => b"recursive",
+        Word::Again => b"self",
+        Word::Int => b"int",
+        Word::Bool => b"bool",
+        Word::Text => b"text",
+        Word::Bytes => b"bytes",
+        Word::Tree => b"tree",
+        Word::List => b"list",
+        Word::Tuple => b"tuple",
+        Word::Func(Func::Len) => b"len",
+        Word::Func(Func::Has) => b"has",
+        Word::Func(Func::Sum) => b"sum",
+        Word::Func(Func::Cat) => b"cat",
+        Word::Func(Func::Rev) => b"rev",
+        Word::Func(Func::Leaf) => b"leaf",
+        Word::Func(Func::Node) => b"node",
+        Word::Func(Func::Label) => b"label",
+        Word::Func(Func::Kids) => b"kids",
+        Word::Func(Func::Labels) => b"labels",
+        Word::Binder(Binder::All) => b"all",
+        Word::Binder(Binder::Any) => b"any",
+        Word::Binder(Binder::Each) => b"each",
     }
 }
 
@@ -152,7 +150,7 @@ fn reserved(text: &[char]) -> Option<Word>
     ensures { result ≡ word_among all_words text.now }
 {
     for word in WORDS {
-        if is_same(text, word.text()) {
+        if is_same(text, word_text(word)) {
             return Some(word);
         }
     }

@@ -1,5 +1,2 @@
-mod Counts
-mod Room
-mod Settled
 mod SuiteAnswers
 mod SuiteLaws

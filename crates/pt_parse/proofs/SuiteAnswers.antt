@@ -4,20 +4,20 @@ use Rattle.std.specs.List.{AllByRecursion}
 use Rattle.pt_ast.specs.Bounds.{IsBounded}
 use Rattle.pt_ast.specs.Numbers.{IsNumbered}
 use Rattle.pt_ast.specs.Trees.{SuiteTree}
-use Rattle.pt_lex.specs.declared.token.Token.{Token}
-use Rattle.pt_lex.specs.declared.token.Kind.{Kind}
-use Rattle.pt_lex.specs.declared.token.Kind.TheVariants as kind
+use Rattle.pt_token.specs.declared.token.Token.{Token}
+use Rattle.pt_token.specs.declared.token.Kind.{Kind}
+use Rattle.pt_token.specs.declared.token.Kind.TheVariants as kind
 use Rattle.pt_lex.specs.Lexing.{Lexed, TokensOf}
 use Rattle.pt_lex.specs.Tokens.{Spelled}
 use Rattle.pt_grammar.specs.declared.sort.Sort.{Sort}
 use Rattle.pt_grammar.specs.declared.sort.Sort.TheVariants as sort
 use Rattle.pt_grammar.specs.Tokens.{IsText}
-use Rattle.pt_grammar.specs.Laws.{FitsKind}
+use Rattle.pt_readings.specs.Laws.{FitsKind}
 use Rattle.pt_grammar.specs.Reading.{Fault, at, place_at}
 use Rattle.pt_grammar.specs.SuiteReading.{suite_at}
-use Rattle.pt_grammar.proofs.SuiteTexts.{Whole, whole_law, first_fault}
-use Rattle.pt_grammar.proofs.Bounded.{keeps_bounds}
-use Rattle.pt_grammar.proofs.Numbered.{numbers}
+use Rattle.pt_readings.proofs.SuiteTexts.{Whole, whole_law, first_fault}
+use Rattle.pt_readings.proofs.Bounded.{keeps_bounds}
+use Rattle.pt_readings.proofs.Numbered.{numbers}
 use Rattle.pt_parse.specs.Suites.{Reads, FaultsAt, Faults, fault_of}
 
 -- a text or bytes that a token spells keep their bound

@@ -3,15 +3,16 @@ use Rattle.std.proofs.Common.{◌≡◌, ◌⊎◌, inl, inr, ℕ, ◌<◌, List
 use Rattle.std.specs.List.{AllByRecursion}
 use Rattle.pt_val.specs.declared.place.Place.{Place}
 use Rattle.pt_ast.specs.Trees.{SuiteTree}
-use Rattle.pt_lex.specs.declared.token.Token.{Token}
-use Rattle.pt_lex.specs.Lexing.{EndOnce, NotUtf8At, TokensOf}
+use Rattle.pt_token.specs.declared.token.Token.{Token}
+use Rattle.pt_token.specs.Ending.{EndOnce}
+use Rattle.pt_lex.specs.Lexing.{NotUtf8At, TokensOf}
 use Rattle.pt_grammar.specs.declared.sort.Sort.{Sort}
 use Rattle.pt_grammar.specs.declared.sort.Sort.TheVariants as sort
 use Rattle.pt_grammar.specs.Tokens.{IsText}
-use Rattle.pt_grammar.specs.Faults.{HasFirstFault}
-use Rattle.pt_grammar.specs.Laws.{ReadsAs}
+use Rattle.pt_readings.specs.Faults.{HasFirstFault}
+use Rattle.pt_readings.specs.Laws.{ReadsAs}
 use Rattle.pt_grammar.specs.SuiteGrammar.{SuiteText}
-use Rattle.pt_grammar.proofs.SuiteTexts.{one_reading, reads_or_faults, not_both, one_fault}
+use Rattle.pt_readings.proofs.SuiteTexts.{one_reading, reads_or_faults, not_both, one_fault}
 use Rattle.pt_parse.specs.declared.fault.SuiteFault.{SuiteFault}
 use Rattle.pt_parse.specs.declared.fault.SuiteFault.TheVariants as fault
 use Rattle.pt_parse.specs.Suites.{Reads, FaultsAt, HasFault, fault_of}

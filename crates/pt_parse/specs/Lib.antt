@@ -1,3 +1,1 @@
 pub mod Suites
-pub mod Settings
-pub mod Statements

@@ -2,12 +2,12 @@
 use Rattle.std.specs.Prelude.{◌≡◌, ℕ, List}
 use Rattle.pt_val.specs.declared.place.Place.{Place}
 use Rattle.pt_ast.specs.Trees.{SuiteTree}
-use Rattle.pt_lex.specs.declared.token.Token.{Token}
+use Rattle.pt_token.specs.declared.token.Token.{Token}
 use Rattle.pt_lex.specs.Lexing.{NotUtf8At, TokensOf}
 use Rattle.pt_grammar.specs.declared.sort.Sort.{Sort}
 use Rattle.pt_grammar.specs.declared.sort.Sort.TheVariants as sort
-use Rattle.pt_grammar.specs.Faults.{HasFirstFault}
-use Rattle.pt_grammar.specs.Laws.{ReadsAs}
+use Rattle.pt_readings.specs.Faults.{HasFirstFault}
+use Rattle.pt_readings.specs.Laws.{ReadsAs}
 use Rattle.pt_grammar.specs.SuiteGrammar.{SuiteText}
 use Rattle.pt_parse.specs.declared.fault.SuiteFault.{SuiteFault}
 use Rattle.pt_parse.specs.declared.fault.SuiteFault.TheVariants as fault

@@ -1,17 +1,11 @@
 //! The text of a suite, read: its tree, or its first fault.
 //!
-//! The text is cut into tokens, and these are read from left to right by functions that answer what the grammar's reading functions answer, of which pt_grammar proves that
+//! The text is cut into tokens, and these are read from left to right by functions that answer what the grammar's reading functions answer, of which pt_readings proves that
 //! they give the one reading or the one first fault.
 #![tactic(auto)]
 
 mod fault;
-mod items;
 mod laws;
-mod leaves;
-mod machines;
-mod settings;
-mod stmts;
-mod strats;
 mod suite;
 
 pub use fault::SuiteFault;

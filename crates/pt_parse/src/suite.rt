@@ -1,5 +1,5 @@
 ghost use Rattle.std.specs.Prelude.{◌≤◌, ◌^◌, length, IfOk, IfErr};
-ghost use Rattle.pt_terms.specs.Gives.{Gives};
+ghost use Rattle.pt_taking.specs.Gives.{Gives};
 ghost use Rattle.pt_ast.specs.Bounds.{IsBounded};
 ghost use Rattle.pt_ast.specs.Numbers.{IsNumbered};
 ghost use Rattle.pt_ast.specs.Plain.{plain_suite};
@@ -7,10 +7,11 @@ ghost use Rattle.pt_grammar.specs.SuiteReading.{suite_at};
 ghost use Rattle.pt_parse.specs.Suites.{Reads, Faults};
 
 use crate::SuiteFault;
-use crate::items::read_items;
 use pt_ast::Suite;
-use pt_lex::{LexStop, Token, tokens_end_once, tokens_of};
-use pt_terms::{Stop, Terminal, one, place};
+use pt_lex::{LexStop, tokens_end_once, tokens_of};
+use pt_read_items::read_items;
+use pt_taking::{Stop, Terminal, one, place};
+use pt_token::Token;
 use std::alloc::Global;
 
 /// Reads the suite that these bytes are the text of: its tree, or the first fault.

@@ -3,7 +3,8 @@
 use crate::expect::expect;
 use crate::shown::MOST_BYTES;
 use pt_choice::{NoMemory, Octets};
-use pt_lex::{Kind, LexStop, tokens_of};
+use pt_lex::{LexStop, tokens_of};
+use pt_token::Kind;
 use std::alloc::Global;
 
 /// A text: a front, so many times a piece, and a back.

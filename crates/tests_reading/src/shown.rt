@@ -1,6 +1,7 @@
 //! Tokens as plain data.
 
-use pt_lex::{Kind, Token};
+use pt_lex::{mark_text, word_text};
+use pt_token::{Kind, Token};
 use pt_val::Place;
 
 /// No text of the tables is longer.
@@ -40,8 +41,8 @@ pub fn is_shown(token: &Token, row: Row) -> bool {
 
 fn is_kind(kind: &Kind, shown: Shown) -> bool {
     match kind {
-        Kind::Word(word) => matches!(shown, Shown::Word(text) if word.text() == text),
-        Kind::Mark(mark) => matches!(shown, Shown::Mark(text) if mark.text() == text),
+        Kind::Word(word) => matches!(shown, Shown::Word(text) if word_text(*word) == text),
+        Kind::Mark(mark) => matches!(shown, Shown::Mark(text) if mark_text(*mark) == text),
         Kind::Minus(number) => is_sign(*number, shown),
         Kind::Number(number) => matches!(shown, Shown::Number(wanted) if *number == wanted),
         Kind::Name(name) => matches!(shown, Shown::Name(text) if name.as_slice() == text),

@@ -1,10 +1,10 @@
 -- A mark, read from the left.
 use Rattle.std.specs.Prelude.{ℕ, if◌then◌else◌, List, [], ◌∷◌, length, take, drop}
 use Rattle.pt_ast.specs.declared.expr.CompareOp.TheVariants as compare
-use Rattle.pt_lex.specs.declared.token.Kind.{Kind}
-use Rattle.pt_lex.specs.declared.token.Kind.TheVariants as kind
-use Rattle.pt_lex.specs.declared.token.Mark.{Mark}
-use Rattle.pt_lex.specs.declared.token.Mark.TheVariants as mark
+use Rattle.pt_token.specs.declared.token.Kind.{Kind}
+use Rattle.pt_token.specs.declared.token.Kind.TheVariants as kind
+use Rattle.pt_token.specs.declared.token.Mark.{Mark}
+use Rattle.pt_token.specs.declared.token.Mark.TheVariants as mark
 use Rattle.pt_lex.specs.Marks.{mark_text}
 use Rattle.pt_lex.specs.reading.Word.{same_text}
 

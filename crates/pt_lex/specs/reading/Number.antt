@@ -1,8 +1,8 @@
 -- Numbers and minus signs, read from the left.
 use Rattle.std.specs.Prelude.{ℕ, ◌+◌, ◌*◌, ◌-◌, ◌==◌, Bool, false, if◌then◌else◌, List, [], ◌∷◌, min}
 use Rattle.pt_val.specs.Name.{is_digit}
-use Rattle.pt_lex.specs.declared.token.Kind.{Kind}
-use Rattle.pt_lex.specs.declared.token.Kind.TheVariants as kind
+use Rattle.pt_token.specs.declared.token.Kind.{Kind}
+use Rattle.pt_token.specs.declared.token.Kind.TheVariants as kind
 use Rattle.pt_lex.specs.Numbers.{most_number}
 use Rattle.pt_lex.specs.reading.Gap.{gap_on}
 

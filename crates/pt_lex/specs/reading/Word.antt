@@ -4,10 +4,10 @@ use Rattle.std.specs.Cmp.Lexicographic.{pointwise}
 use Rattle.pt_val.specs.Name.{is_name_byte}
 use Rattle.pt_ast.specs.declared.expr.Binder.TheVariants as binder
 use Rattle.pt_ast.specs.declared.expr.Func.TheVariants as func
-use Rattle.pt_lex.specs.declared.token.Kind.{Kind}
-use Rattle.pt_lex.specs.declared.token.Kind.TheVariants as kind
-use Rattle.pt_lex.specs.declared.token.Word.{Word}
-use Rattle.pt_lex.specs.declared.token.Word.TheVariants as word
+use Rattle.pt_token.specs.declared.token.Kind.{Kind}
+use Rattle.pt_token.specs.declared.token.Kind.TheVariants as kind
+use Rattle.pt_token.specs.declared.token.Word.{Word}
+use Rattle.pt_token.specs.declared.token.Word.TheVariants as word
 use Rattle.pt_lex.specs.Words.{word_text}
 
 -- what stands behind letters, digits and underscores

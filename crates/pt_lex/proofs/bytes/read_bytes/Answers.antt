@@ -1,5 +1,5 @@
 use Rattle.std.proofs.Common.{◌∷◌, inl, inr, refl, subst, sym}
-use Rattle.pt_lex.specs.declared.token.Kind.TheVariants as kind
+use Rattle.pt_token.specs.declared.token.Kind.TheVariants as kind
 use Rattle.pt_lex.specs.Outcome.{Outcome}
 use Rattle.pt_lex.proofs.HexedLaws.{bytes_refused, bytes_taken}
 use Rattle.pt_lex.proofs.bytes.read_bytes.Goals as goal

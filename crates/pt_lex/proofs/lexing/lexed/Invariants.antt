@@ -1,5 +1,5 @@
 use Rattle.std.proofs.Common.{◌≡◌, ◌≤◌, ◌+◌, ◌*◌, ℕ, List, [], ◌++◌, length}
-use Rattle.pt_lex.specs.declared.token.Token.{Token}
+use Rattle.pt_token.specs.declared.token.Token.{Token}
 use Rattle.pt_lex.specs.Lexing.{Lexed}
 use Rattle.pt_lex.specs.Places.{place_behind}
 use Rattle.pt_lex.proofs.lexing.lexed.Given as goal

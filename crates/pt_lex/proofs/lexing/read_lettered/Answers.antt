@@ -1,6 +1,6 @@
 use Rattle.std.proofs.Common.{ℕ, List, ◌≡◌}
 use Rattle.std.specs.Borrow.{Bor}
-use Rattle.pt_lex.specs.declared.token.Kind.{Kind}
+use Rattle.pt_token.specs.declared.token.Kind.{Kind}
 use Rattle.pt_lex.specs.Outcome.{Outcome}
 use Rattle.pt_lex.specs.reading.Word.{word_token}
 use Rattle.pt_lex.proofs.ReadLaws.{if_ok, word_read}

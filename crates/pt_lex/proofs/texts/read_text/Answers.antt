@@ -1,5 +1,5 @@
 use Rattle.std.proofs.Common.{◌∷◌, inl, inr, refl, subst, sym}
-use Rattle.pt_lex.specs.declared.token.Kind.TheVariants as kind
+use Rattle.pt_token.specs.declared.token.Kind.TheVariants as kind
 use Rattle.pt_lex.specs.Outcome.{Outcome}
 use Rattle.pt_lex.proofs.TextLaws.{text_refused, text_taken}
 use Rattle.pt_lex.proofs.texts.read_text.Goals as goal

@@ -1,0 +1,15 @@
+use Rattle.std.proofs.Common.{ℕ, ◌-◌, ◌≤◌, length, map}
+use Rattle.pt_ast.specs.Plain.{plain_invariant}
+use Rattle.pt_grammar.specs.Reading.{less_room}
+use Rattle.pt_grammar.specs.SuiteReading.{invariant_at, is_invariant}
+use Rattle.pt_read_items.proofs.Room.{Roomy}
+use Rattle.pt_read_items.proofs.machines.read_invariants.Given as goal
+
+abbrev pub decreases-loop-alloc : goal.decreases-loop-alloc
+decreases-loop-alloc l = length l.rest
+
+abbrev pub invariant-loop-alloc : goal.invariant-loop-alloc
+invariant-loop-alloc l = record {
+  roomy : Roomy (λ (room : ℕ). invariant_at l.left) is_invariant less_room (λ room. room) 64 64 l.tokens (map plain_invariant l.invariants) (64 - length l.invariants) l.rest;
+  shorter : length l.rest ≤ length l.tokens;
+}
