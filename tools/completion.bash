@@ -19,9 +19,9 @@ _gathorni() {
     words=("${words[0]}" "${words[@]:2}") at=$((at - 1))
   fi
   case $at:${words[1]} in
-    1:*) told='test run replay stored make new prove help --help --proved --unproved' ;;
+    1:*) told='test run replay explain stored make new prove help --help --proved --unproved' ;;
     2:help) told=$(_gathorni_words "${words[0]}") ;;
-    3:replay) told=$(_gathorni_items "${words[2]}") ;;
+    3:replay | 3:explain) told=$(_gathorni_items "${words[2]}") ;;
     *:test)
       case $now:${words[at - 1]} in
         -*) told='--seed --workers --for --seeds --shard --junit' ;;
@@ -31,7 +31,7 @@ _gathorni() {
   esac
   if [ -n "$told" ]; then
     mapfile -t COMPREPLY < <(compgen -W "$told" -- "$now")
-  elif [ "$at:${words[1]}" = 2:run ] || [ "$at:${words[1]}" = 2:replay ] || [ "${words[1]}" = test ]; then
+  elif [ "$at:${words[1]}" = 2:run ] || [ "$at:${words[1]}" = 2:replay ] || [ "$at:${words[1]}" = 2:explain ] || [ "${words[1]}" = test ]; then
     mapfile -t COMPREPLY < <(compgen -f -X '!*.suite' -- "$now" | cat - <(compgen -d -- "$now"))
   fi
 }

@@ -1,6 +1,6 @@
 # Makes of the report of one suite what build servers read of it: a test case for each item, with a failure or an error where it did not
 # pass; and a test case with an error, where the suite as a whole was not examined. The environment has the suite, the seed, the status and
-# the words that replay a failure.
+# the words that replay and that explain a failure.
 
 function xml(text) {
   gsub(/&/, "\\&amp;", text); gsub(/</, "\\&lt;", text); gsub(/>/, "\\&gt;", text); gsub(/"/, "\\&quot;", text)
@@ -38,7 +38,11 @@ BEGIN { suite = xml(ENVIRON["suite"]) }
   keep("      <failure message=\"" xml(told) "\" type=\"" kind(told) "\">")
 }
 /^  / && failed { keep(xml($0)) }
-/^  choices: / && failed { keep(xml(ENVIRON["again"] " " failed " '" substr($0, 12) "'")); end_failure() }
+/^  choices: / && failed {
+  keep(xml(ENVIRON["again"] " " failed " '" substr($0, 12) "'"))
+  if (substr($0, 12) != "-") keep(xml(ENVIRON["more"] " " failed " '" substr($0, 12) "'"))
+  end_failure()
+}
 
 END {
   if (failed) end_failure()

@@ -8,7 +8,7 @@ use Rattle.pt_plan.specs.Plan.{Plan}
 use Rattle.pt_plan.specs.Says.{plan_says}
 use Rattle.pt_typed.specs.Plans.{ints_plan, pair_plan, list_plan}
 use Rattle.pt_typed.specs.Property.{property_plan}
-use Rattle.demo_lru.specs.Checks.{IsCheck}
+use Rattle.pt_handed.specs.Checks.{IsCheck}
 use Rattle.demo_lru.specs.Cache.{answered_alike, commands_say}
 
 -- a check of this name that goes by the same plan

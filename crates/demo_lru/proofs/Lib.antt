@@ -1,4 +1,3 @@
-mod BoxLemmas
 mod NameLemmas
 mod ChecksLemmas
 mod CommandLemmas

@@ -1,9 +1,6 @@
 -- The four checks of this tester have names of their own.
 use Rattle.std.proofs.Common.{◌≡◌, ℕ, List, [], ◌∷◌, get_or, sym, ◌∙◌, ap, arith}
-use Rattle.std.specs.Prelude.{◌≢◌}
-use Rattle.std.specs.List.{All, AllPairs}
-use Rattle.std.proofs.lemmas.List.Elements.{All-nil, All-cons}
-use Rattle.std.proofs.lemmas.List.Kept.{AllPairs-cons}
+use Rattle.pt_handed.proofs.NameLemmas.{Differ, four-names}
 use Rattle.pt_run.specs.Suite.{HaveOwnNames}
 use Rattle.demo_lru.specs.Cache.{cache_name}
 use Rattle.demo_lru.specs.Pieces.{pieces_name}
@@ -12,39 +9,28 @@ use Rattle.demo_lru.specs.LeapYears.{leap_name}
 
 module _ {C : Type 0} (name : C → List ℕ) (cache pieces hex_round_trip leap_years : C) (c : name cache ≡ cache_name) (p : name pieces ≡ pieces_name)
     (h : name hex_round_trip ≡ hex_name) (l : name leap_years ≡ leap_name) where
-  abbrev Differ : C → C → Type 0
-  Differ one other = name one ≢ name other
-
-  cache-pieces : Differ cache pieces
+  cache-pieces : Differ name cache pieces
   cache-pieces is = let e : cache_name ≡ pieces_name = sym c ∙ is ∙ p in cc
 
-  cache-hex_round_trip : Differ cache hex_round_trip
+  cache-hex_round_trip : Differ name cache hex_round_trip
   cache-hex_round_trip is = let e : cache_name ≡ hex_name = sym c ∙ is ∙ h in cc
 
-  cache-leap_years : Differ cache leap_years
+  cache-leap_years : Differ name cache leap_years
   cache-leap_years is = let e : cache_name ≡ leap_name = sym c ∙ is ∙ l in cc
 
-  pieces-hex_round_trip : Differ pieces hex_round_trip
+  pieces-hex_round_trip : Differ name pieces hex_round_trip
   pieces-hex_round_trip is = let e : pieces_name ≡ hex_name = sym p ∙ is ∙ h in cc
 
-  pieces-leap_years : Differ pieces leap_years
+  pieces-leap_years : Differ name pieces leap_years
   pieces-leap_years is = let e : pieces_name ≡ leap_name = sym p ∙ is ∙ l in cc
 
-  hex_round_trip-leap_years : Differ hex_round_trip leap_years
+  hex_round_trip-leap_years : Differ name hex_round_trip leap_years
   hex_round_trip-leap_years is =
       let same : hex_name ≡ leap_name = sym h ∙ is ∙ l in
       let first : ◌≡◌ {A = ℕ} 104 108 = ap (λ (text : List ℕ). get_or text 0 0) same in
       omega (arith, first)
 
-  none : AllPairs Differ []
-  none i j d below within = absurd (omega (arith, within))
-
   pub own-names : HaveOwnNames name (cache ∷ pieces ∷ hex_round_trip ∷ leap_years ∷ [])
   own-names =
-      AllPairs-cons Differ cache (pieces ∷ hex_round_trip ∷ leap_years ∷ [])
-      (All-cons (Differ cache) pieces (hex_round_trip ∷ leap_years ∷ []) cache-pieces
-      (All-cons (Differ cache) hex_round_trip (leap_years ∷ []) cache-hex_round_trip (All-cons (Differ cache) leap_years [] cache-leap_years (All-nil (Differ cache)))))
-      (AllPairs-cons Differ pieces (hex_round_trip ∷ leap_years ∷ [])
-      (All-cons (Differ pieces) hex_round_trip (leap_years ∷ []) pieces-hex_round_trip (All-cons (Differ pieces) leap_years [] pieces-leap_years (All-nil (Differ pieces))))
-      (AllPairs-cons Differ hex_round_trip (leap_years ∷ []) (All-cons (Differ hex_round_trip) leap_years [] hex_round_trip-leap_years (All-nil (Differ hex_round_trip)))
-      (AllPairs-cons Differ leap_years [] (All-nil (Differ leap_years)) none)))
+      four-names name cache pieces hex_round_trip leap_years cache-pieces cache-hex_round_trip cache-leap_years pieces-hex_round_trip pieces-leap_years
+      hex_round_trip-leap_years

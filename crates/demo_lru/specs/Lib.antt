@@ -4,4 +4,3 @@ pub mod Cache
 pub mod Hexed
 pub mod LeapYears
 pub mod Pieces
-pub mod Checks

@@ -3,7 +3,7 @@
 ghost use Rattle.std.specs.Prelude.{◌≡◌, IfOk};
 ghost use Rattle.std.specs.NonZero.{non_zero_usize_get};
 ghost use Rattle.demo_lru.specs.Cache.{by_cache, cache_name, cache_says};
-ghost use Rattle.demo_lru.specs.Checks.{IsCheck};
+ghost use Rattle.pt_handed.specs.Checks.{IsCheck};
 
 use crate::command::{Command, Drawn, read};
 use crate::listed::{Pairs, ROOM, tell_list};

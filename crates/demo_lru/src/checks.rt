@@ -1,15 +1,15 @@
 ghost use Rattle.std.specs.Prelude.{◌≡◌, [], ◌∷◌, map, IfOk};
-ghost use Rattle.pt_host.specs.declared.handed.Handed.TheVariants.{Boxed, Machine};
+ghost use Rattle.pt_handed.specs.declared.handed.Handed.TheVariants.{Boxed, Machine};
 ghost use Rattle.demo_lru.specs.Cache.{cache_name, cache_says};
 ghost use Rattle.demo_lru.specs.Pieces.{append_meaning, clear_meaning, IsPieces};
 ghost use Rattle.demo_lru.specs.Hexed.{hex_name, hex_says};
 ghost use Rattle.demo_lru.specs.LeapYears.{leap_name, leap_says};
-ghost use Rattle.demo_lru.specs.Checks.{IsCheck};
+ghost use Rattle.pt_handed.specs.Checks.{IsCheck};
 
 use crate::pieces::pieces_machine;
 use pt_case::Check;
 use pt_choice::NoMemory;
-use pt_host::Handed;
+use pt_handed::Handed;
 use pt_rules::Rule;
 use std::alloc::Global;
 

@@ -2,7 +2,7 @@
 
 ghost use Rattle.std.specs.Prelude.{◌≡◌, IfOk};
 ghost use Rattle.demo_lru.specs.Hexed.{is_read_back, hex_name, hex_says};
-ghost use Rattle.demo_lru.specs.Checks.{IsCheck};
+ghost use Rattle.pt_handed.specs.Checks.{IsCheck};
 
 use hex::FromHexError;
 use pt_case::{Check, Ending, Origin};

@@ -2,7 +2,7 @@
 
 ghost use Rattle.std.specs.Prelude.{◌≡◌, IfOk};
 ghost use Rattle.demo_lru.specs.LeapYears.{is_by_four, is_leap, leap_name, leap_says};
-ghost use Rattle.demo_lru.specs.Checks.{IsCheck};
+ghost use Rattle.pt_handed.specs.Checks.{IsCheck};
 
 use pt_case::{Check, Ending, Origin};
 use pt_choice::NoMemory;

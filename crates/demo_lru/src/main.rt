@@ -5,7 +5,7 @@
 ghost use Rattle.demo_lru.specs.Cache.{cache_name, cache_says};
 ghost use Rattle.demo_lru.specs.Hexed.{hex_name, hex_says};
 ghost use Rattle.demo_lru.specs.LeapYears.{leap_name, leap_says};
-ghost use Rattle.demo_lru.specs.Checks.{IsCheck};
+ghost use Rattle.pt_handed.specs.Checks.{IsCheck};
 
 mod cache;
 mod checks;

@@ -1,13 +1,13 @@
 ghost use Rattle.std.specs.Prelude.{◌≡◌, ◌⊎◌, IfOk, OnErr};
 ghost use Rattle.std.specs.Process.{exit_status};
-ghost use Rattle.pt_run.specs.Message.{IsStatus};
+ghost use Rattle.pt_commands.specs.Message.{IsStatus};
 ghost use Rattle.pt_run.specs.Suite.{HaveOwnNames};
 
-use crate::command_line::words;
 use pt_case::Check;
 use pt_choice::NoMemory;
-use pt_real::{FolderDisk, RealFileSystem, RealFiles, StdSink};
-use pt_run::{Finish, top};
+use pt_commands::Finish;
+use pt_real::{FolderDisk, RealFileSystem, RealFiles, StdSink, words};
+use pt_run::top;
 use std::env::Env;
 use std::fs::File;
 use std::io;

@@ -1,23 +1,14 @@
 //! The program: a tester over the example checks `never`, `always`, `sorted_pair` and `counter`.
 #![tactic(auto)]
 
-ghost use Rattle.pt_main.specs.Checks.{never_name, never_says, always_name, always_says, sorted_pair_name, sorted_pair_says, IsCheck};
+ghost use Rattle.pt_handed.specs.Checks.{IsCheck};
+ghost use Rattle.pt_checks.specs.Checks.{never_name, never_says, always_name, always_says, sorted_pair_name, sorted_pair_says};
 
-mod always;
-mod checks;
-mod counter;
-mod never;
-mod sorted_pair;
-
-use always::Always;
-use checks::handed;
-use counter::{Add, Reset};
-use never::Never;
 use pt_case::Check;
+use pt_checks::{Add, Always, Never, Reset, handed, sorted_pair};
 use pt_choice::NoMemory;
 use pt_host::{OUT_OF_MEMORY, tester};
 use pt_rules::Rule;
-use sorted_pair::sorted_pair;
 use std::env::Env;
 use std::fs::File;
 use std::process::ExitCode;

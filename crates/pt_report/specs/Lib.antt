@@ -1,4 +1,5 @@
 pub mod Listing
 pub mod Refusals
 pub mod Report
+pub mod Explaining
 pub mod Sorts

@@ -19,7 +19,7 @@ word_text word.UnknownCheck = codes "unknown check"
 
 -- the line of a refusal
 abbrev pub refusal_text : Refusal → List ℕ
-refusal_text refusal.Usage = line (codes "usage: run SUITE SEED WORKERS | replay SUITE NAME CHOICES | stored | make SEED COUNT" ∷ [])
+refusal_text refusal.Usage = line (codes "usage: run SUITE SEED WORKERS | replay SUITE NAME CHOICES | stored | make SEED COUNT | explain SUITE NAME CHOICES" ∷ [])
 refusal_text (refusal.Suite place word) = line (codes "suite refused at " ∷ place_text place ∷ codes ": " ∷ word_text word ∷ [])
 refusal_text refusal.Read = line (codes "suite cannot be read" ∷ [])
 refusal_text refusal.Database = line (codes "database failed" ∷ [])

@@ -2,6 +2,7 @@
 #![tactic(auto)]
 
 mod ending;
+mod explaining;
 mod listing;
 mod made;
 mod pieces;
@@ -10,6 +11,7 @@ mod report;
 mod shown;
 mod sorts;
 
+pub use explaining::explain_text;
 pub use listing::listed;
 pub use made::summary;
 pub use refusal::{Refusal, Word, fixed_text, refusal_text};

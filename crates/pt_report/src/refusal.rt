@@ -37,7 +37,7 @@ pub enum Refusal {
     Clash,
     /// The suite's file has more than 1,048,576 bytes.
     TooLarge,
-    /// The suite has no item of the name that a replay asks for.
+    /// The suite has no item of the name that a replay or an explanation asks for.
     UnknownItem,
 }
 
@@ -58,7 +58,7 @@ pub fn fixed_text(refusal: &Refusal) -> &'static [u8]
 {
     match *refusal {
         Refusal::Usage => {
-            b"usage: run SUITE SEED WORKERS | replay SUITE NAME CHOICES | stored | make SEED COUNT\n"
+            b"usage: run SUITE SEED WORKERS | replay SUITE NAME CHOICES | stored | make SEED COUNT | explain SUITE NAME CHOICES\n"
         }
         Refusal::Suite(..) => unreachable!(),
         Refusal::Read => b"suite cannot be read\n",

@@ -17,15 +17,15 @@ use Rattle.pt_turns.specs.Scene.{DiskShown}
 use Rattle.pt_turns.proofs.CrashLemmas.{finished-left, stopped-left}
 use Rattle.pt_turns.proofs.ExitLemmas.{exit-kept, exit-midway, end-exit, finished-exit, finished-end, stopped-exit}
 use Rattle.pt_turns.proofs.SoundLemmas.{nothing-lost, nothing-invented, nothing-else}
-use Rattle.pt_run.specs.declared.message.Message.TheVariants.{Refused}
+use Rattle.pt_commands.specs.declared.message.Message.TheVariants.{Refused}
 use Rattle.pt_run.specs.Call.{Call, Answers}
 use Rattle.pt_run.specs.Crash.{OfTaken, IsSafe, IsLeft, IsLeftSince, IsLeftAtExit, IsLeftAtEnd}
 use Rattle.pt_run.specs.Ends.{Ends, EndsShort, reported_of}
-use Rattle.pt_run.specs.Message.{TellsAll, TellsPart}
+use Rattle.pt_commands.specs.Message.{TellsAll, TellsPart}
 use Rattle.pt_run.specs.Outside.{Outside, scene_of}
 use Rattle.pt_run.specs.Suite.{IsTaken}
-use Rattle.pt_run.specs.Words.{Asked, Run, Replay, Stored, Make, AsksRun}
-use Rattle.pt_run.proofs.Asking.{Alike, asks_alike}
+use Rattle.pt_commands.specs.Words.{Asked, Run, Replay, Stored, Make, Explain, AsksRun}
+use Rattle.pt_commands.proofs.Asking.{Alike, asks_alike}
 use Rattle.pt_run.proofs.Workers.{not_below}
 
 -- a disk that is as it was is at the same moment
@@ -82,6 +82,7 @@ module _ {C : Type 0} (name : C → List ℕ) (step : C → List Choice → Answ
   came_one call (Replay other wanted list) file seed workers alike ends = absurd alike
   came_one call Stored file seed workers alike ends = absurd alike
   came_one call (Make seed' count) file seed workers alike ends = absurd alike
+  came_one call (Explain other wanted list) file seed workers alike ends = absurd alike
 
   came : (call : Call) (file : List ℕ) (seed workers : ℕ) → Answers name step checks call → AsksRun call.words file seed workers → CameTo call file seed
   came call file seed workers (inl (nothing, tells)) asks = absurd (nothing (Run file seed workers) asks)

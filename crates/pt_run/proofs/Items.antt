@@ -16,7 +16,7 @@ use Rattle.pt_found.specs.declared.finding.Finding.{Finding}
 use Rattle.pt_plan.specs.Says.{plan_says}
 use Rattle.pt_prop.specs.Property.{property_plan}
 use Rattle.pt_machine.specs.Machine.{machine_plan}
-use Rattle.pt_item.specs.Item.{OfBody}
+use Rattle.pt_item.specs.Item.{OfBody, OfItem}
 use Rattle.pt_disk.specs.Moments.{Told}
 use Rattle.pt_edits.specs.Pairs.{PairEdit}
 use Rattle.pt_edits.specs.Readings.{lists_of}
@@ -150,6 +150,17 @@ module _ {C : Type 0} (name : C → List ℕ) (step : C → List Choice → Answ
   of_one word settings Check_of P X one follows = follows (step one.1) one.4
   of_one word settings (Property_of stmts) P X one follows = follows (plan_says (property_plan stmts)) one
   of_one word settings (Machine_of machine) P X one follows = follows (plan_says (machine_plan machine settings.steps)) one
+
+  -- and what is said of it then
+  body_follows : (word : List ℕ) (settings : Settings) (body : BodyTree) (P Q : (List Choice → Answer → Type 0) → Type 0) →
+      OfBody name step checks word settings body P → ((says : List Choice → Answer → Type 0) → P says → Q says) → OfBody name step checks word settings body Q
+  body_follows word settings Check_of P Q (place, check, at, named, holds) follows = (place, check, at, named, follows (step check) holds)
+  body_follows word settings (Property_of stmts) P Q holds follows = follows (plan_says (property_plan stmts)) holds
+  body_follows word settings (Machine_of machine) P Q holds follows = follows (plan_says (machine_plan machine settings.steps)) holds
+
+  pub item_follows : (item : ItemTree) (P Q : (List Choice → Answer → Type 0) → Type 0) → OfItem name step checks item P →
+      ((says : List Choice → Answer → Type 0) → P says → Q says) → OfItem name step checks item Q
+  item_follows item P Q holds follows = body_follows item.name.name item.settings item.body P Q holds follows
 
   -- what follows of two things that are said of it
   pub of_both : AreDistinct (map name checks) → (word : List ℕ) (settings : Settings) (body : BodyTree) (P Q : (List Choice → Answer → Type 0) → Type 0)

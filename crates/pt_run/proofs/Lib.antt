@@ -1,13 +1,11 @@
-pub mod Asking
 pub mod Completeness
 pub mod Crashes
-pub mod Entries
 pub mod Items
+pub mod Marks
 pub mod Messages
 pub mod Performing
 pub mod Replaying
 pub mod SecondRuns
 pub mod Statuses
 pub mod Suites
-pub mod Words
 pub mod Workers

@@ -22,15 +22,15 @@ use Rattle.pt_item.specs.Item.{OfItem}
 use Rattle.pt_report.specs.Report.{IsReplay}
 use Rattle.pt_report.specs.declared.refusal.Refusal.TheVariants as refusal
 use Rattle.pt_turns.specs.Examined.{Examined}
-use Rattle.pt_run.specs.declared.message.Message.{Message}
-use Rattle.pt_run.specs.declared.message.Message.TheVariants.{Refused, Replayed, Listed}
+use Rattle.pt_commands.specs.declared.message.Message.{Message}
+use Rattle.pt_commands.specs.declared.message.Message.TheVariants.{Refused, Replayed, Listed, Marked}
 use Rattle.pt_run.specs.Call.{Call, Answers, HasSuite, IsQuiet, AsksAgain, Replays}
 use Rattle.pt_run.specs.Ends.{Ends, Says, reported_of}
-use Rattle.pt_run.specs.Message.{Tells, TellsAll, TellsPart}
+use Rattle.pt_commands.specs.Message.{Tells, TellsAll, TellsPart}
 use Rattle.pt_run.specs.Outside.{scene_of}
 use Rattle.pt_run.specs.Suite.{HaveOwnNames, IsTaken}
-use Rattle.pt_run.specs.Words.{Asked, Run, Replay, Stored, Make, Asks, AsksRun}
-use Rattle.pt_run.proofs.Asking.{Alike, asks_alike}
+use Rattle.pt_commands.specs.Words.{Asked, Run, Replay, Stored, Make, Explain, Asks, AsksRun}
+use Rattle.pt_commands.proofs.Asking.{Alike, asks_alike}
 use Rattle.pt_run.proofs.Completeness.{on_suite}
 use Rattle.pt_run.proofs.Items.{IsFoundIn, finding_of, of_both, of_one, only_one, own_distinct}
 use Rattle.pt_run.proofs.Messages.{HasBytes-some}
@@ -85,6 +85,7 @@ module _ {C : Type 0} (name : C → List ℕ) (step : C → List Choice → Answ
   of_one_run run (Replay other wanted list) file seed workers finding alike ends has = absurd alike
   of_one_run run Stored file seed workers finding alike ends has = absurd alike
   of_one_run run (Make seed' count) file seed workers finding alike ends has = absurd alike
+  of_one_run run (Explain other wanted list) file seed workers finding alike ends has = absurd alike
 
   of_run : (run : Call) (file : List ℕ) (seed workers : ℕ) (finding : Finding) → Answers name step checks run → AsksRun run.words file seed workers →
       Contains run.finish.findings finding → IsOf run file finding
@@ -126,6 +127,7 @@ module _ {C : Type 0} (name : C → List ℕ) (step : C → List Choice → Answ
         let same = same_record own of.seed of.found.stored of.found.item finding shown rec found spent of.found.examined failed on_list in
         of_told title rec (says.2 ∙ is_wanted) same.0 same.1 tells
     of_says wanted list (Listed entries) is_wanted is_list says tells = absurd says
+    of_says wanted list (Marked title rec explained) is_wanted is_list says tells = absurd says
     of_says wanted list (Refused refusal.UnknownItem) is_wanted is_list says tells =
         absurd (says of.found.item (of.found.has, sym title_is ∙ sym is_wanted))
     of_says wanted list (Refused refusal.Usage) is_wanted is_list says tells = absurd says
@@ -160,6 +162,7 @@ module _ {C : Type 0} (name : C → List ℕ) (step : C → List Choice → Answ
       of_again (Run other seed workers) alike ends told same = absurd alike
       of_again Stored alike ends told same = absurd alike
       of_again (Make seed count) alike ends told same = absurd alike
+      of_again (Explain other wanted list) alike ends told same = absurd alike
 
     pub replays : (run again : Call) (file : List ℕ) (seed workers : ℕ) (finding : Finding) (shown : Record) (found : Found) (spent : Bool) →
         HaveOwnNames name checks → Answers name step checks run → AsksRun run.words file seed workers →

@@ -16,7 +16,7 @@ use Rattle.pt_turns.specs.Again.{AreFoundAgain}
 use Rattle.pt_turns.specs.Turns.{AreTurns}
 use Rattle.pt_run.specs.Call.{Call, Answers}
 use Rattle.pt_run.specs.Suite.{IsTaken}
-use Rattle.pt_run.specs.Words.{AsksRun}
+use Rattle.pt_commands.specs.Words.{AsksRun}
 use Rattle.pt_run.proofs.Completeness.{is_suite}
 use Rattle.pt_run.proofs.Messages.{HasBytes-some}
 use Rattle.pt_run.proofs.Replaying.{some_of}

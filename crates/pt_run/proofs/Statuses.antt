@@ -14,14 +14,15 @@ use Rattle.pt_report.specs.declared.refusal.Refusal.{Refusal}
 use Rattle.pt_report.specs.declared.refusal.Refusal.TheVariants as refusal
 use Rattle.pt_turns.specs.Finishes as turns
 use Rattle.pt_turns.specs.Scene.{DiskShown, Scene}
-use Rattle.pt_run.specs.declared.finish.Finish.{Finish}
-use Rattle.pt_run.specs.declared.message.Message.{Message}
-use Rattle.pt_run.specs.declared.message.Message.TheVariants.{Refused, Replayed, Listed}
-use Rattle.pt_run.specs.Ends.{Ends, Lists, OnSuite, Says, reported_of}
-use Rattle.pt_run.specs.Message.{IsStatus, Tells, TellsAll, TellsPart, refusal_status, status_of}
+use Rattle.pt_commands.specs.declared.finish.Finish.{Finish}
+use Rattle.pt_commands.specs.declared.message.Message.{Message}
+use Rattle.pt_commands.specs.declared.message.Message.TheVariants.{Refused, Replayed, Listed, Marked}
+use Rattle.pt_commands.specs.Ends.{Lists}
+use Rattle.pt_run.specs.Ends.{Ends, Explains, OnSuite, Says, reported_of}
+use Rattle.pt_commands.specs.Message.{IsStatus, Tells, TellsAll, TellsPart, refusal_status, status_of}
 use Rattle.pt_run.specs.Outside.{Outside}
 use Rattle.pt_run.specs.Suite.{IsTurnedDown}
-use Rattle.pt_run.specs.Words.{Asked, Run, Replay, Stored, Make}
+use Rattle.pt_commands.specs.Words.{Asked, Run, Replay, Stored, Make, Explain}
 
 -- one of the statuses, but that of a clash
 abbrev IsPlain : ℕ → Type 0
@@ -95,6 +96,7 @@ usage_as finish old new tells = told_as (Refused refusal.Usage) finish old new i
 listed_status : (old new : DiskShown) (message : Message) → Lists old new message → IsPlain (status_of message)
 listed_status old new (Listed entries) lists = is_0
 listed_status old new (Replayed shown rec) lists = absurd lists
+listed_status old new (Marked shown rec explained) lists = absurd lists
 listed_status old new (Refused refusal.Usage) lists = absurd lists
 listed_status old new (Refused (refusal.Suite at which)) lists = absurd lists
 listed_status old new (Refused refusal.Read) lists = absurd lists
@@ -108,6 +110,7 @@ module _ {C : Type 0} (name : C → List ℕ) (step : C → List Choice → Answ
       IsPlain (status_of message)
   said_status suite wanted list (Replayed shown rec) says = of_failed (is_failure rec.ending)
   said_status suite wanted list (Listed entries) says = absurd says
+  said_status suite wanted list (Marked shown rec explained) says = absurd says
   said_status suite wanted list (Refused refusal.UnknownItem) says = is_10
   said_status suite wanted list (Refused refusal.Usage) says = absurd says
   said_status suite wanted list (Refused (refusal.Suite at which)) says = absurd says
@@ -115,6 +118,19 @@ module _ {C : Type 0} (name : C → List ℕ) (step : C → List Choice → Answ
   said_status suite wanted list (Refused refusal.Database) says = absurd says
   said_status suite wanted list (Refused refusal.Clash) says = absurd says
   said_status suite wanted list (Refused refusal.TooLarge) says = absurd says
+
+  marked_status : (suite : SuiteTree) (wanted : List ℕ) (list : List Choice) (message : Message) → Explains name step checks suite wanted list message →
+      IsPlain (status_of message)
+  marked_status suite wanted list (Marked shown rec explained) says = of_failed (is_failure rec.ending)
+  marked_status suite wanted list (Replayed shown rec) says = absurd says
+  marked_status suite wanted list (Listed entries) says = absurd says
+  marked_status suite wanted list (Refused refusal.UnknownItem) says = is_10
+  marked_status suite wanted list (Refused refusal.Usage) says = absurd says
+  marked_status suite wanted list (Refused (refusal.Suite at which)) says = absurd says
+  marked_status suite wanted list (Refused refusal.Read) says = absurd says
+  marked_status suite wanted list (Refused refusal.Database) says = absurd says
+  marked_status suite wanted list (Refused refusal.Clash) says = absurd says
+  marked_status suite wanted list (Refused refusal.TooLarge) says = absurd says
 
   run_as : (seed : ℕ) (items : List ItemTree) (finish : Finish) (old new : Scene) →
       turns.Finishes name step checks seed items (reported_of finish) old new → EndsAs finish
@@ -136,6 +152,9 @@ module _ {C : Type 0} (name : C → List ℕ) (step : C → List Choice → Answ
   ends_as (Replay file wanted list) before after finish ends =
       on_suite_as file _ before after finish (λ suite does.
       told_as does.0 finish before.sink after.sink (said_status suite wanted list does.0 does.1) does.2) ends
+  ends_as (Explain file wanted list) before after finish ends =
+      on_suite_as file _ before after finish (λ suite does.
+      told_as does.0 finish before.sink after.sink (marked_status suite wanted list does.0 does.1) does.2) ends
   ends_as Stored before after finish (message, lists, tells) =
       told_as message finish before.sink after.sink (listed_status before.disk after.disk message lists) tells
   ends_as (Make seed count) before after finish sums = inl (sums.clash, of_told sums.told)

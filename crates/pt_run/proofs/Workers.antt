@@ -17,13 +17,13 @@ use Rattle.pt_report.specs.declared.refusal.Refusal.TheVariants as refusal
 use Rattle.pt_stored.specs.Stored.{SameStored}
 use Rattle.pt_turns.specs.Agree.{AgreeWhereOwn}
 use Rattle.pt_turns.specs.Turns.{AreTurns}
-use Rattle.pt_run.specs.declared.message.Message.TheVariants.{Refused}
+use Rattle.pt_commands.specs.declared.message.Message.TheVariants.{Refused}
 use Rattle.pt_run.specs.Call.{Call, Answers}
 use Rattle.pt_run.specs.Ends.{Ends}
-use Rattle.pt_run.specs.Message.{TellsAll, TellsPart, refusal_status}
+use Rattle.pt_commands.specs.Message.{TellsAll, TellsPart, refusal_status}
 use Rattle.pt_run.specs.Suite.{IsTaken}
-use Rattle.pt_run.specs.Words.{Asked, Run, Replay, Stored, Make, AsksRun}
-use Rattle.pt_run.proofs.Asking.{Alike, asks_alike}
+use Rattle.pt_commands.specs.Words.{Asked, Run, Replay, Stored, Make, Explain, AsksRun}
+use Rattle.pt_commands.proofs.Asking.{Alike, asks_alike}
 use Rattle.pt_run.proofs.Completeness.{is_suite}
 use Rattle.pt_run.proofs.Messages.{HasBytes-some}
 use Rattle.pt_run.proofs.Replaying.{some_of}
@@ -75,6 +75,7 @@ module _ {C : Type 0} (name : C → List ℕ) (step : C → List Choice → Answ
   run_one call (Replay other wanted list) file seed workers told alike ends below telling = absurd alike
   run_one call Stored file seed workers told alike ends below telling = absurd alike
   run_one call (Make seed' count) file seed workers told alike ends below telling = absurd alike
+  run_one call (Explain other wanted list) file seed workers told alike ends below telling = absurd alike
 
   pub has_run : (call : Call) (file : List ℕ) (seed workers : ℕ) (told : Told) → Answers name step checks call → AsksRun call.words file seed workers →
       call.finish.status < 2 → call.before.disk.told ≡ Some told → HasRun call file seed told

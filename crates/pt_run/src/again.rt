@@ -5,7 +5,7 @@ ghost use Rattle.pt_disk.specs.Moments.{Told, now};
 ghost use Rattle.pt_io.specs.Files.{IsSame};
 ghost use Rattle.pt_run.specs.Call.{Call, Answers};
 ghost use Rattle.pt_run.specs.Suite.{HaveOwnNames, IsTaken};
-ghost use Rattle.pt_run.specs.Words.{AsksRun};
+ghost use Rattle.pt_commands.specs.Words.{AsksRun};
 ghost use Rattle.pt_stored.specs.Stored.{SameStored};
 ghost use Rattle.pt_turns.specs.Again.{AreFoundAgain};
 

@@ -4,22 +4,19 @@ ghost use Rattle.pt_db.specs.Attaching.{Attached};
 ghost use Rattle.pt_disk.specs.Moments.{BothTell};
 ghost use Rattle.pt_io.specs.Files.{IsSame};
 ghost use Rattle.pt_run.specs.Call.{Answers, call};
-ghost use Rattle.pt_run.specs.Command.{asked_by};
+ghost use Rattle.pt_commands.specs.Command.{asked_by};
 ghost use Rattle.pt_run.specs.Ends.{Ends, EndsShort};
-ghost use Rattle.pt_run.specs.Message.{IsStatus};
+ghost use Rattle.pt_commands.specs.Message.{IsStatus};
 ghost use Rattle.pt_run.specs.Outside.{outside};
 ghost use Rattle.pt_run.specs.Suite.{HaveOwnNames};
-ghost use Rattle.pt_run.specs.Words.{Asks, AsksStored, AskNoDisk, AskNoFile};
+ghost use Rattle.pt_commands.specs.Words.{Asks, AsksStored, AskNoDisk, AskNoFile};
 
-use crate::command::{Command, read_command};
-use crate::making::make;
+use crate::explaining::explain_on;
 use crate::running::run;
 use crate::showing::show;
-use crate::storing::list;
-use crate::telling::tell;
-use crate::{Finish, Message};
 use pt_case::Check;
 use pt_choice::NoMemory;
+use pt_commands::{Command, Finish, Message, list, make, read_command, tell};
 use pt_disk::Disk;
 use pt_io::{Files, Sink};
 use pt_report::Refusal;
@@ -65,7 +62,7 @@ pub fn top<R: Threads + Sync, F: Files, D: Disk, K: Sink, C: Check>(
     ensures later { (K.shows sink.old).faults ≤ (K.shows sink.new).faults }
     ensures later_disk { D.faults disk.old ≤ D.faults disk.new }
 
-    // The files are called for a run and a replay alone, and the disk for a run and a list of what it holds. Of the files one is
+    // The files are called for a run, a replay and an explanation alone, and the disk for a run and a list of what it holds. Of the files one is
     // chosen, once; after want of memory perhaps none.
     ensures untouched { AskNoFile words.now → files.new ≡ files.old }
     ensures undisturbed { AskNoDisk words.now → disk.new ≡ disk.old }
@@ -120,5 +117,8 @@ fn perform<R: Threads + Sync, F: Files, D: Disk, K: Sink, C: Check>(
         }
         Command::Stored => list(alloc, disk, sink),
         Command::Make { seed, count } => make(rt, alloc, seed, count, sink, checks),
+        Command::Explain { suite, item, list } => {
+            explain_on(alloc, suite, item, &list, files, sink, checks)
+        }
     }
 }

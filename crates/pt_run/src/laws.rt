@@ -20,7 +20,7 @@ ghost use Rattle.pt_run.specs.Crash.{OfTaken, IsSafe, IsLeft, IsLeftSince, IsLef
 ghost use Rattle.pt_run.specs.Ends.{EndsShort};
 ghost use Rattle.pt_run.specs.Outside.{Outside};
 ghost use Rattle.pt_run.specs.Suite.{HaveOwnNames, IsTaken};
-ghost use Rattle.pt_run.specs.Words.{Asked, Asks, AsksRun};
+ghost use Rattle.pt_commands.specs.Words.{Asked, Asks, AsksRun};
 
 use pt_case::Check;
 use pt_parse::{one_suite, suite_or_fault};
@@ -29,7 +29,7 @@ use pt_typing::suites_are_decided;
 /// Completeness: where the words ask for what can be done, and no call of the outside fails, it is done.
 pub fn what_can_be_done_is_done<C: Check>(checks: &[C])
     ensures { (call : Call) (asked : Asked) → Answers C.name C.step checks.now call → Asks call.words asked
-        → IsRunnable (map C.name checks.now) call.before.files asked → IsQuiet call → IsDone asked call }
+        → IsRunnable (map C.name checks.now) call.before.files asked → IsQuiet call → IsDone C.name C.step checks.now asked call }
 {
     one_suite();
     suite_or_fault();

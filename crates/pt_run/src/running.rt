@@ -8,13 +8,12 @@ ghost use Rattle.pt_turns.specs.Scene.{scene};
 ghost use Rattle.pt_run.specs.Ends.{Ends};
 ghost use Rattle.pt_run.specs.Outside.{outside};
 ghost use Rattle.pt_run.specs.Suite.{IsTaken};
-ghost use Rattle.pt_run.specs.Words.{Run};
+ghost use Rattle.pt_commands.specs.Words.{Run};
 
 use crate::loading::{Loaded, load};
-use crate::telling::tell;
-use crate::{Finish, Message};
 use pt_case::Check;
 use pt_choice::NoMemory;
+use pt_commands::{Finish, Message, tell};
 use pt_disk::Disk;
 use pt_io::{Files, Sink};
 use pt_turns::{report, sound_items_are_ready};

@@ -7,14 +7,13 @@ ghost use Rattle.pt_disk.specs.Moments.{Told};
 ghost use Rattle.pt_io.specs.Files.{IsSame};
 ghost use Rattle.pt_run.specs.Ends.{Ends, Says};
 ghost use Rattle.pt_run.specs.Outside.{outside};
-ghost use Rattle.pt_run.specs.Words.{Replay};
+ghost use Rattle.pt_commands.specs.Words.{Replay};
 
 use crate::loading::{Loaded, load};
-use crate::telling::tell;
-use crate::{Finish, Message};
 use pt_ast::{Item, Typed};
 use pt_case::{Check, replay};
 use pt_choice::{Choices, NoMemory};
+use pt_commands::{Finish, Message, tell};
 use pt_io::{Files, Sink};
 use pt_item::{ItemCheck, typed_items_are_handed_in};
 use pt_report::Refusal;
@@ -69,7 +68,7 @@ fn replayed_on<C: Check>(
 }
 
 // The item of this name.
-fn named<'a>(items: &'a [Item], wanted: &str) -> Option<&'a Item>
+pub(crate) fn named<'a>(items: &'a [Item], wanted: &str) -> Option<&'a Item>
     ensures { MatchOption result ((item : ItemTree) → Contains (map plain_item items.now) item → item.name.name ≢ wanted.now)
         (λ item. Contains (map plain_item items.now) (plain_item item.now) × (item.now.name.name ≡ wanted.now)) }
 {

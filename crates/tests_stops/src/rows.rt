@@ -6,8 +6,8 @@ use crate::expect::expect;
 use crate::folder::{Stored, folder, holds_all};
 use crate::script::{Script, is_told};
 use crate::suites::{
-    ABC, ABC_AND_NONE, BROKEN, FINE, MAKE, NEW, NONE, OLD, REPLAY, RUN, RUN_WITH_FOUR, SHOWN,
-    STALE, STORED,
+    ABC, ABC_AND_NONE, BROKEN, EXPLAIN, FINE, MAKE, NEW, NONE, OLD, REPLAY, RUN, RUN_WITH_FOUR,
+    SHOWN, STALE, STORED,
 };
 use pt_disk::DiskStop;
 use std::alloc::Global;
@@ -31,22 +31,23 @@ const ROWS: [Row; 11] = [
         },
         &[SHOWN, NEW],
     ),
-    // Neither a replay nor a made suite calls the disk, and neither of the others but the replay the files.
+    // Neither a replay nor an explanation nor a made suite calls the disk, and of the others but the first two none calls the files: each makes three calls of them.
     (
         &[OLD],
         Some(4),
         Script {
             suite: Some(ABC),
-            read: Some(4),
+            read: Some(7),
             write: None,
             calls: &[
                 (REPLAY, 1),
+                (EXPLAIN, 1),
                 (MAKE, 1),
                 (STORED, 6),
                 (STORED, 0),
                 (REPLAY, 4),
             ],
-            output: "abc: failed at 3:3 (assert)\n  x = 573\n  choices: i573\n3 items: 1 passed, 1 failed, 1 gave up, 3 choices shown\ndatabase failed\nba7816bf8f01cfea414140de5dae2223b00361a396177a9cb410ff61f20015ad i573\n1 stored\nsuite cannot be read\n",
+            output: "abc: failed at 3:3 (assert)\n  x = 573\n  choices: i573\nabc: failed at 3:3 (assert)\n  x = 573\n  choices: i573\n  0: i573 bound by i0\n3 items: 1 passed, 1 failed, 1 gave up, 3 choices shown\ndatabase failed\nba7816bf8f01cfea414140de5dae2223b00361a396177a9cb410ff61f20015ad i573\n1 stored\nsuite cannot be read\n",
         },
         &[OLD],
     ),
@@ -65,7 +66,7 @@ const ROWS: [Row; 11] = [
                 (STORED, 6),
                 (REPLAY, 4),
             ],
-            output: "usage: run SUITE SEED WORKERS | replay SUITE NAME CHOICES | stored | make SEED COUNT\nusage: run SUITE SEED WORKERS | replay SUITE NAME CHOICES | stored | make SEED COUNT\nunknown item\ndatabase failed\nsuite cannot be read\n",
+            output: "usage: run SUITE SEED WORKERS | replay SUITE NAME CHOICES | stored | make SEED COUNT | explain SUITE NAME CHOICES\nusage: run SUITE SEED WORKERS | replay SUITE NAME CHOICES | stored | make SEED COUNT | explain SUITE NAME CHOICES\nunknown item\ndatabase failed\nsuite cannot be read\n",
         },
         &[OLD],
     ),

@@ -8,6 +8,8 @@ pub const RUN_WITH_FOUR: &[&str] = &["run", "s", "1", "4"];
 
 pub const REPLAY: &[&str] = &["replay", "s", "abc", "i573"];
 
+pub const EXPLAIN: &[&str] = &["explain", "s", "abc", "i573"];
+
 pub const STORED: &[&str] = &["stored"];
 
 pub const MAKE: &[&str] = &["make", "5", "3"];

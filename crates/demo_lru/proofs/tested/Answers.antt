@@ -4,10 +4,10 @@ use Rattle.pt_plan.specs.Says.{plan_says}
 use Rattle.pt_typed.specs.Plans.{ints_plan, blobs_plan, pair_plan, list_plan}
 use Rattle.pt_typed.specs.Property.{property_plan}
 use Rattle.demo_lru.specs.Cache.{answered_alike, cache_name, cache_says}
-use Rattle.demo_lru.specs.Checks.{IsCheck}
+use Rattle.pt_handed.specs.Checks.{IsCheck}
 use Rattle.demo_lru.specs.Hexed.{read_back, hex_name, hex_says}
 use Rattle.demo_lru.specs.LeapYears.{keeps_the_calendar, leap_name, leap_says}
-use Rattle.demo_lru.proofs.BoxLemmas.{is-check}
+use Rattle.pt_handed.proofs.BoxLemmas.{is-check}
 use Rattle.demo_lru.proofs.tested.OwnLists.{own-1, at-1-1, at-1-2, at-1-3}
 use Rattle.demo_lru.proofs.tested.Goals as goal
 

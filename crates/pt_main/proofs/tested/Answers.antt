@@ -3,8 +3,9 @@ use denote.Param.Object.{read_made}
 use Rattle.pt_plan.specs.Says.{plan_says}
 use Rattle.pt_typed.specs.Plans.{ints_plan, pair_plan}
 use Rattle.pt_typed.specs.Property.{property_plan}
-use Rattle.pt_main.specs.Checks.{IsCheck, in_order, sorted_pair_name, sorted_pair_says}
-use Rattle.pt_main.proofs.BoxLemmas.{is-check, as-named}
+use Rattle.pt_handed.specs.Checks.{IsCheck}
+use Rattle.pt_checks.specs.Checks.{in_order, sorted_pair_name, sorted_pair_says}
+use Rattle.pt_handed.proofs.BoxLemmas.{is-check, as-named}
 use Rattle.pt_main.proofs.tested.OwnLists.{own-1, at-1-1, at-1-2, at-1-3}
 use Rattle.pt_main.proofs.tested.Goals as goal
 

@@ -1,9 +1,9 @@
 use Rattle.std.proofs.Common.{[], IfOk, refl, sym, subst}
-use Rattle.pt_run.specs.Command.{asked_by}
+use Rattle.pt_commands.specs.Command.{asked_by}
 use Rattle.pt_run.specs.Ends.{Ends}
 use Rattle.pt_run.specs.Outside.{outside}
-use Rattle.pt_run.specs.declared.command.Command.{Command}
-use Rattle.pt_run.proofs.Asking.{stored_no_file, make_no_file}
+use Rattle.pt_commands.specs.declared.command.Command.{Command}
+use Rattle.pt_commands.proofs.Asking.{stored_no_file, make_no_file}
 use Rattle.pt_run.proofs.Performing.{asks_of, err-both, err-settled, run-short}
 use Rattle.pt_run.proofs.entry.perform.Goals as goal
 
@@ -75,3 +75,17 @@ returns-in-Make-clause-short g c = err-both c.make.result _ _ _ c.make.ensures.n
 pub returns-in-Make-clause-once : goal.returns-in-Make-clause-once
 returns-in-Make-clause-once g c needs =
     absurd (needs (make_no_file c.args.words.now c.in-Make.seed c.in-Make.count (asks_of c.args.words.now c.args.command _ c.in-Make.is c.requires)))
+
+pub returns-in-Explain-clause-ends : goal.returns-in-Explain-clause-ends
+returns-in-Explain-clause-ends g c =
+    subst (λ (command : Command). IfOk c.explain_on.result (λ finish. Ends g.C.Check.name g.C.Check.step c.args.checks.now (asked_by command)
+    (outside (g.F.Files.shows c.args.files.now) (g.D.Disk.faults c.args.disk.now) (g.D.Disk.tells c.args.disk.now) (g.K.Sink.shows c.args.sink.now))
+    (outside (g.F.Files.shows c.explain_on.new.files) (g.D.Disk.faults c.args.disk.now) (g.D.Disk.tells c.args.disk.now) (g.K.Sink.shows c.explain_on.new.sink)) finish))
+    (sym c.in-Explain.is) (c.explain_on.ensures.ends (g.D.Disk.faults c.args.disk.now) (g.D.Disk.tells c.args.disk.now))
+
+pub returns-in-Explain-clause-short : goal.returns-in-Explain-clause-short
+returns-in-Explain-clause-short g c = err-both c.explain_on.result _ _ _ c.explain_on.ensures.nothing refl
+
+pub returns-in-Explain-clause-untouched : goal.returns-in-Explain-clause-untouched
+returns-in-Explain-clause-untouched g c outside_all =
+    absurd ((outside_all c.in-Explain.suite.now c.in-Explain.item.now 0 0 c.in-Explain.list).2 (asks_of c.args.words.now c.args.command _ c.in-Explain.is c.requires))

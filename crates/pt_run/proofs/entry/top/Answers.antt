@@ -3,13 +3,13 @@ use Rattle.std.specs.Prelude.{◌↔◌, IsSome}
 use Rattle.pt_choice.specs.Faults.{next_count}
 use Rattle.pt_report.specs.declared.refusal.Refusal.TheVariants.{Usage}
 use Rattle.pt_run.specs.Call.{Answers, call}
-use Rattle.pt_run.specs.Command.{asked_by}
+use Rattle.pt_commands.specs.Command.{asked_by}
 use Rattle.pt_run.specs.Ends.{Ends}
-use Rattle.pt_run.specs.Message.{IsStatus, Tells}
+use Rattle.pt_commands.specs.Message.{IsStatus, Tells}
 use Rattle.pt_run.specs.Outside.{outside}
-use Rattle.pt_run.specs.Words.{Asks, AskNothing, AskNoFile}
-use Rattle.pt_run.specs.declared.message.Message.TheVariants.{Refused}
-use Rattle.pt_run.proofs.Asking.{nothing_no_file}
+use Rattle.pt_commands.specs.Words.{Asks, AskNothing, AskNoFile}
+use Rattle.pt_commands.specs.declared.message.Message.TheVariants.{Refused}
+use Rattle.pt_commands.proofs.Asking.{nothing_no_file}
 use Rattle.pt_run.proofs.Messages.{IfOk-follows, OnOk-always}
 use Rattle.pt_run.proofs.Statuses.{ends_as, usage_as, status_from, clash_from}
 use Rattle.pt_run.proofs.entry.top.Goals as goal

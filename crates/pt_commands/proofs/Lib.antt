@@ -1,0 +1,4 @@
+pub mod Asking
+pub mod Entries
+pub mod Made
+pub mod Words

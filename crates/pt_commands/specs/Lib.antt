@@ -1,0 +1,5 @@
+pub mod Command
+pub mod Ends
+pub mod Explaining
+pub mod Message
+pub mod Words
