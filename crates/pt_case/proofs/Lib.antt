@@ -3,6 +3,7 @@ pub mod PlacedLemmas
 pub mod RegionLemmas
 pub mod UnderWayLemmas
 pub mod PathLemmas
+pub mod GuidedLemmas
 pub mod RecordLemmas
 pub mod RunsLemmas
 pub mod BetterLemmas

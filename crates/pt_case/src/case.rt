@@ -1,6 +1,6 @@
-ghost use Rattle.std.specs.Prelude.{◌≡◌, ◌≢◌, ◌↔◌, true, length, is_some, IsSome, IfOk, OnOk, OnErr, IsErrOf};
+ghost use Rattle.std.specs.Prelude.{◌≡◌, ◌≢◌, ◌↔◌, true, [], length, is_some, IsSome, IfOk, OnOk, OnErr, IsErrOf};
 ghost use Rattle.pt_choice.specs.Kind.{admits, AsksSmall};
-ghost use Rattle.pt_case.specs.Source.{Listed, Fresh};
+ghost use Rattle.pt_case.specs.Source.{Listed, Fresh, Guided, kept_kinds};
 ghost use Rattle.pt_choice.specs.Limits.{IsInLimits};
 ghost use Rattle.pt_case.specs.Region.{innermost, spans_at};
 ghost use Rattle.pt_case.specs.Refused.{kind_refused};
@@ -74,6 +74,14 @@ impl Case {
         ensures { IfOk result (λ case. case ≡ new_state (Fresh supply)) }
     {
         Case::over(alloc, AnswerSource::fresh(supply))
+    }
+
+    /// A new case that answers with the members of a list, as a replay does, and behind them with what the supply makes.
+    /// It has room for `MAX_CHOICES` choices and `MAX_SPANS` spans.
+    pub fn guided(alloc: Global, list: &Choices, supply: Supply) -> Result<Case, NoMemory>
+        ensures { IfOk result (λ case. case ≡ new_state (Guided list.now supply [])) }
+    {
+        Case::over(alloc, AnswerSource::guided(alloc, list, supply)?)
     }
 
     fn over(alloc: Global, source: AnswerSource) -> Result<Case, NoMemory>
@@ -169,6 +177,13 @@ impl Case {
             Some(Refused::Question(kind)) => Some(*kind),
             _ => None,
         }
+    }
+
+    // The kinds of the questions so far, which a guided case keeps.
+    pub(crate) fn kept_kinds(&self) -> &[Kind]
+        ensures { result.now ≡ kept_kinds self.now.left }
+    {
+        self.source.kept_kinds()
     }
 
     fn refuse(&mut self, refused: Refused) -> Stop

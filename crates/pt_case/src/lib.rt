@@ -9,6 +9,7 @@ mod answer_source;
 mod case;
 mod check;
 mod ending;
+mod kinds;
 mod laws;
 mod note;
 mod record;
@@ -17,10 +18,12 @@ mod region;
 mod sharing;
 mod span;
 mod stop;
+mod traced;
 
 pub use case::{Case, MAX_CHOICES, MAX_SPANS};
 pub use check::{Check, asks, fresh, replay};
 pub use ending::{Ending, Origin, What};
+pub use kinds::Kinds;
 pub use laws::{
     a_list_has_one_record, a_record_is_its_own, a_run_has_one_record, a_run_replays_to_itself,
     better_goes_down,
@@ -31,3 +34,4 @@ pub use refused::Refused;
 pub use region::Region;
 pub use span::{Span, Spans};
 pub use stop::Stop;
+pub use traced::{Traced, guided};
