@@ -1,4 +1,6 @@
-use crate::{Finding, Findings, Flags, Found, Shrunk, Trail, Verdict};
+use crate::{
+    Fault, Faults, Finding, Findings, Flags, Found, Shrunk, Survey, Surveys, Trail, Verdict,
+};
 use pt_choice::may_be_shared;
 
 fn workers_share_them() {
@@ -9,4 +11,8 @@ fn workers_share_them() {
     may_be_shared::<Flags>();
     may_be_shared::<Finding>();
     may_be_shared::<Findings>();
+    may_be_shared::<Fault>();
+    may_be_shared::<Faults>();
+    may_be_shared::<Survey>();
+    may_be_shared::<Surveys>();
 }

@@ -1,0 +1,5 @@
+pub mod Window
+pub mod Origins
+pub mod Survey
+pub mod Agree
+pub mod Progress
