@@ -4,11 +4,15 @@
 #![tactic(auto)]
 
 #[cfg(test)]
+mod above;
+#[cfg(test)]
 mod cases;
 #[cfg(test)]
 mod checks;
 #[cfg(test)]
 mod expect;
+#[cfg(test)]
+mod guided;
 #[cfg(test)]
 mod keys;
 #[cfg(test)]

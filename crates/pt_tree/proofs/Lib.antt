@@ -1,0 +1,3 @@
+pub mod AboveLemmas
+pub mod CountingLemmas
+pub mod AnswerLemmas
