@@ -1,7 +1,7 @@
 -- What the calls of a folder ask of a file system.
 use Rattle.std.specs.Prelude.{◌≡◌, ◌⊎◌, ◌∷◌, [], ℕ, Bool, if◌then◌else◌, List, length}
 use Rattle.pt_real.specs.FileNames.{HaveSame}
-use Rattle.pt_real.specs.Asked.{Asked, Made, Opened, Ended, Listed, Locked, and_did, and_synced}
+use Rattle.pt_real.specs.Asked.{Asked, Made, Opened, Ended, Listed, Locked, and_did, and_synced, and_unlocked}
 
 -- the folder that the machine calls the current one
 abbrev pub here : List ℕ
@@ -14,6 +14,10 @@ made_first made folder asked = if made then asked else and_synced here (and_did 
 -- and then its lock is taken, where it is not held
 abbrev pub locked_first : Bool → Bool → List ℕ → Asked → Asked
 locked_first made held folder asked = if held then made_first made folder asked else and_did (Locked folder) (made_first made folder asked)
+
+-- the lock was given back last, where it was held
+abbrev pub IsGivenBack : Bool → Asked → Type 0
+IsGivenBack held now = (before : Asked) × (now ≡ and_unlocked held before)
 
 -- the file of this path was opened and gave these bytes, and they are as many as were asked for, or all
 abbrev pub IsReadUpTo : ℕ → List ℕ → List ℕ → Asked → Asked → Type 0

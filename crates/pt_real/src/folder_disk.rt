@@ -4,7 +4,7 @@ ghost use Rattle.pt_disk.specs.Calls.{AreNames, AreOrdered, HasCause, Rests, Cha
 ghost use Rattle.pt_disk.specs.declared.change.Change.TheVariants as change;
 ghost use Rattle.pt_real.specs.Asked.{Created, Absent, Renamed, Removed, and_did, and_synced, and_unlocked};
 ghost use Rattle.pt_real.specs.FileNames.{IsFileName, path_in};
-ghost use Rattle.pt_real.specs.Steps.{IsListed, IsReadUpTo, locked_first, made_first};
+ghost use Rattle.pt_real.specs.Steps.{IsGivenBack, IsListed, IsReadUpTo, locked_first, made_first};
 
 use crate::file_system::FileSystem;
 use crate::folder::Folder;
@@ -27,6 +27,9 @@ impl<S: FileSystem + Drop> FolderDisk<S> {
     /// need is taken here.
     pub fn of(system: S, alloc: Global, folder: &str) -> Result<FolderDisk<S>, NoMemory>
         ensures folder { IfOk result (λ disk. string_bytes disk.folder.path.folder ≡ folder.now) }
+        ensures system { IfOk result (λ disk. disk.folder.system ≡ system) }
+        ensures made { IfOk result (λ disk. disk.folder.made ≡ false) }
+        ensures held { IfOk result (λ disk. disk.folder.held ≡ false) }
         ensures no_faults { IfOk result (λ disk. disk.faults ≡ 0) }
     {
         Ok(FolderDisk {
@@ -53,6 +56,9 @@ impl<S: FileSystem + Drop> Disk for FolderDisk<S> {
         ensures ordered { IfOk result AreOrdered }
         ensures rests { Rests None None }
         ensures cause { HasCause (IsErrOf result DiskStop.Failed) self.old.faults self.new.faults }
+        ensures folder { self.new.folder.path.folder ≡ self.old.folder.path.folder }
+        ensures made { OnOk result (self.new.folder.made ≡ true) }
+        ensures held { self.new.folder.held ≡ self.old.folder.held }
         ensures asked { IfOk result (λ names. IsListed names (string_bytes self.old.folder.path.folder) (made_first self.old.folder.made (string_bytes self.old.folder.path.folder) (S.asked self.old.folder.system)) (S.asked self.new.folder.system)) }
     {
         let names = self.folder.names(alloc);
@@ -65,6 +71,9 @@ impl<S: FileSystem + Drop> Disk for FolderDisk<S> {
         ensures rests { Rests None None }
         ensures cause { HasCause (IsErrOf result DiskStop.Failed) self.old.faults self.new.faults }
         ensures misnamed { ¬ IsFileName name.now → IsErrOf result DiskStop.Failed }
+        ensures folder { self.new.folder.path.folder ≡ self.old.folder.path.folder }
+        ensures made { OnOk result (self.new.folder.made ≡ true) }
+        ensures held { self.new.folder.held ≡ self.old.folder.held }
         ensures there { IfOk result (λ read. IfSome read (λ bytes. IsReadUpTo cap (path_in (string_bytes self.old.folder.path.folder) name.now) bytes (made_first self.old.folder.made (string_bytes self.old.folder.path.folder) (S.asked self.old.folder.system)) (S.asked self.new.folder.system))) }
         ensures absent { IfOk result (λ read. IfNone read (S.asked self.new.folder.system ≡ and_did (Absent (path_in (string_bytes self.old.folder.path.folder) name.now)) (made_first self.old.folder.made (string_bytes self.old.folder.path.folder) (S.asked self.old.folder.system)))) }
     {
@@ -76,6 +85,8 @@ impl<S: FileSystem + Drop> Disk for FolderDisk<S> {
         ensures changes { Changes (After (change.Put name.now bytes.now)) (is_ok result) None None }
         ensures cause { HasCause (IsErr result) self.old.faults self.new.faults }
         ensures file { OnOk result (IsFileName name.now) }
+        ensures folder { self.new.folder.path.folder ≡ self.old.folder.path.folder }
+        ensures made { OnOk result (self.new.folder.made ≡ true) }
         ensures asked { OnOk result (S.asked self.new.folder.system ≡ and_did (Created (path_in (string_bytes self.old.folder.path.folder) name.now) bytes.now) (locked_first self.old.folder.made self.old.folder.held (string_bytes self.old.folder.path.folder) (S.asked self.old.folder.system))) }
         ensures held { OnOk result (self.new.folder.held ≡ true) }
     {
@@ -87,6 +98,8 @@ impl<S: FileSystem + Drop> Disk for FolderDisk<S> {
         ensures changes { Changes (After (change.Sync name.now)) (is_ok result) None None }
         ensures cause { HasCause (IsErr result) self.old.faults self.new.faults }
         ensures file { OnOk result (IsFileName name.now) }
+        ensures folder { self.new.folder.path.folder ≡ self.old.folder.path.folder }
+        ensures made { OnOk result (self.new.folder.made ≡ true) }
         ensures asked { OnOk result (S.asked self.new.folder.system ≡ and_synced (path_in (string_bytes self.old.folder.path.folder) name.now) (locked_first self.old.folder.made self.old.folder.held (string_bytes self.old.folder.path.folder) (S.asked self.old.folder.system))) }
         ensures held { OnOk result (self.new.folder.held ≡ true) }
     {
@@ -98,7 +111,9 @@ impl<S: FileSystem + Drop> Disk for FolderDisk<S> {
         ensures changes { Changes (after_rename from.now to.now) (is_ok result) None None }
         ensures cause { HasCause (IsErr result) self.old.faults self.new.faults }
         ensures files { OnOk result (IsFileName from.now × IsFileName to.now) }
-        ensures asked { OnOk result (S.asked self.new.folder.system ≡ and_did (Renamed (path_in (string_bytes self.old.folder.path.folder) from.now) (path_in (string_bytes self.old.folder.target.folder) to.now)) (locked_first self.old.folder.made self.old.folder.held (string_bytes self.old.folder.path.folder) (S.asked self.old.folder.system))) }
+        ensures folder { self.new.folder.path.folder ≡ self.old.folder.path.folder }
+        ensures made { OnOk result (self.new.folder.made ≡ true) }
+        ensures asked { OnOk result (S.asked self.new.folder.system ≡ and_did (Renamed (path_in (string_bytes self.old.folder.path.folder) from.now) (path_in (string_bytes self.old.folder.path.folder) to.now)) (locked_first self.old.folder.made self.old.folder.held (string_bytes self.old.folder.path.folder) (S.asked self.old.folder.system))) }
         ensures held { OnOk result (self.new.folder.held ≡ true) }
     {
         let renamed = self.folder.rename(from, to);
@@ -109,6 +124,8 @@ impl<S: FileSystem + Drop> Disk for FolderDisk<S> {
         ensures changes { Changes (After (change.Remove name.now)) (is_ok result) None None }
         ensures cause { HasCause (IsErr result) self.old.faults self.new.faults }
         ensures file { OnOk result (IsFileName name.now) }
+        ensures folder { self.new.folder.path.folder ≡ self.old.folder.path.folder }
+        ensures made { OnOk result (self.new.folder.made ≡ true) }
         ensures asked { OnOk result (S.asked self.new.folder.system ≡ and_did (Removed (path_in (string_bytes self.old.folder.path.folder) name.now)) (locked_first self.old.folder.made self.old.folder.held (string_bytes self.old.folder.path.folder) (S.asked self.old.folder.system))) }
         ensures held { OnOk result (self.new.folder.held ≡ true) }
     {
@@ -119,8 +136,11 @@ impl<S: FileSystem + Drop> Disk for FolderDisk<S> {
     fn settle(&mut self) -> Result<(), DiskFailed>
         ensures changes { Changes (After change.Settle) (is_ok result) None None }
         ensures cause { HasCause (IsErr result) self.old.faults self.new.faults }
+        ensures folder { self.new.folder.path.folder ≡ self.old.folder.path.folder }
+        ensures made { OnOk result (self.new.folder.made ≡ true) }
         ensures asked { OnOk result (S.asked self.new.folder.system ≡ and_unlocked self.old.folder.held (and_synced (string_bytes self.old.folder.path.folder) (made_first self.old.folder.made (string_bytes self.old.folder.path.folder) (S.asked self.old.folder.system)))) }
         ensures free { self.new.folder.held ≡ false }
+        ensures given_back { IsGivenBack self.old.folder.held (S.asked self.new.folder.system) }
     {
         let settled = self.folder.settle();
         done(&mut self.faults, settled)

@@ -10,20 +10,31 @@ use std::io::{self, Error, ErrorKind, Read, Write};
 use std::time::{Clock, Duration};
 use std::{fs, rt, thread};
 
+/// An open file or folder, which one process at a time may lock. The lock lasts until it is closed.
+pub trait Lock {
+    fn try_take(&self) -> Result<(), TryLockError>;
+}
+
+impl Lock for File {
+    fn try_take(&self) -> Result<(), TryLockError> {
+        self.try_lock()
+    }
+}
+
 // How long a pause is.
 const PAUSE_MILLIS: u64 = 5;
 
 /// The files and folders of the machine. Each call is one of std's, and nothing is told of what was asked.
 #[derive(Drop)]
-pub struct RealFileSystem<'a, R: rt::Files<File = File>> {
+pub struct RealFileSystem<'a, R: rt::Files> {
     rt: &'a R,
     // The file that was opened or created last.
-    file: Option<File>,
+    file: Option<R::File>,
     // The folder whose lock is held, as an open file. The machine lets the lock go where that is closed.
-    lock: Option<File>,
+    lock: Option<R::File>,
 }
 
-impl<'a, R: rt::Files<File = File>> RealFileSystem<'a, R> {
+impl<'a, R: rt::Files> RealFileSystem<'a, R> {
     /// No file is open and no lock is held.
     pub fn of(rt: &'a R) -> RealFileSystem<'a, R>
         ensures file { result.file ≡ None }
@@ -37,7 +48,10 @@ impl<'a, R: rt::Files<File = File>> RealFileSystem<'a, R> {
     }
 }
 
-impl<R: rt::Files<File = File> + Clock> FileSystem for RealFileSystem<'_, R> {
+impl<R: rt::Files + Clock> FileSystem for RealFileSystem<'_, R>
+where
+    R::File: Lock,
+{
     ghost asked = { λ system. None };
 
     fn make_folder(&mut self, folder: &str) -> io::Result<()> {
@@ -101,7 +115,7 @@ impl<R: rt::Files<File = File> + Clock> FileSystem for RealFileSystem<'_, R> {
 
     fn try_lock(&mut self, folder: &str) -> io::Result<bool> {
         let lock = fs::open(self.rt, folder)?;
-        match lock.try_lock() {
+        match lock.try_take() {
             Ok(()) => {
                 self.lock = Some(lock);
                 Ok(true)

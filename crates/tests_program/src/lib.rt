@@ -1,12 +1,8 @@
-//! The tests of the program's one call, over files and an output in memory that fail, and over the machine.
+//! The tests of the program's one call, over files and an output in memory that fail.
 //!
 //! What the program does where its outside does not fail is shown by the program itself.
 #![tactic(auto)]
 
-#[cfg(test)]
-mod folder;
-#[cfg(test)]
-mod machine;
 #[cfg(test)]
 mod program;
 #[cfg(test)]
